@@ -1,0 +1,29 @@
+-- A list of eight words is its eight elements.
+use mathlib.Core.Path.{_≡_, refl, sym, _∙_, ap}
+use mathlib.Core.List.{List, [], _∷_, _++_}
+use Prim.Native.Nat.{ℕ, suc, _<_}
+use native.Mathlib.Omega.{arith}
+use lib.ListN.{length, getD, take, drop}
+use lib.Seq.{drop-cons, drop-length}
+
+pub eight : (l : List ℕ) → length l ≡ 8
+    → l ≡ getD l 0 0 ∷ getD l 1 0 ∷ getD l 2 0 ∷ getD l 3 0 ∷ getD l 4 0 ∷ getD l 5 0 ∷ getD l 6 0 ∷ getD l 7 0 ∷ []
+eight l h =
+    drop-cons l 0 0 (omega arith)
+    ∙ ap (λ (t : List ℕ). getD l 0 0 ∷ t) (drop-cons l 1 0 (omega arith)
+    ∙ ap (λ (t : List ℕ). getD l 1 0 ∷ t) (drop-cons l 2 0 (omega arith)
+    ∙ ap (λ (t : List ℕ). getD l 2 0 ∷ t) (drop-cons l 3 0 (omega arith)
+    ∙ ap (λ (t : List ℕ). getD l 3 0 ∷ t) (drop-cons l 4 0 (omega arith)
+    ∙ ap (λ (t : List ℕ). getD l 4 0 ∷ t) (drop-cons l 5 0 (omega arith)
+    ∙ ap (λ (t : List ℕ). getD l 5 0 ∷ t) (drop-cons l 6 0 (omega arith)
+    ∙ ap (λ (t : List ℕ). getD l 6 0 ∷ t) (drop-cons l 7 0 (omega arith)
+    ∙ ap (λ (t : List ℕ). getD l 7 0 ∷ t) (ap (λ (n : ℕ). drop n l) (sym h) ∙ drop-length l))))))))
+
+module _ (l : List ℕ) (h : length l ≡ 8) where
+  pub pushes : (w : ℕ)
+      → w ∷ getD l 0 0 ∷ getD l 1 0 ∷ getD l 2 0 ∷ getD l 3 0 ∷ getD l 4 0 ∷ getD l 5 0 ∷ getD l 6 0 ∷ [] ≡ w ∷ take 7 l
+  pushes w = ap (λ (t : List ℕ). w ∷ take 7 t) (sym (eight l h))
+
+  pub pops : getD l 1 0 ∷ getD l 2 0 ∷ getD l 3 0 ∷ getD l 4 0 ∷ getD l 5 0 ∷ getD l 6 0 ∷ getD l 7 0 ∷ getD l 7 0 ∷ []
+      ≡ drop 1 l ++ (getD l 7 0 ∷ [])
+  pops = ap (λ (t : List ℕ). drop 1 t ++ (getD l 7 0 ∷ [])) (sym (eight l h))

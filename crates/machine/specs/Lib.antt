@@ -1,0 +1,6 @@
+pub mod Cells
+pub mod Reset
+pub mod Range
+pub mod Stack
+pub mod RangeLaws
+pub mod StackLaws

@@ -1,0 +1,28 @@
+-- Laws of push and pop.
+use mathlib.Core.Path.{_≡_, refl, ap}
+use mathlib.Core.List.{List, [], _∷_, _++_}
+use Prim.Native.Nat.{ℕ, suc, _+_, _<_}
+use native.Mathlib.Omega.{arith}
+use lib.ListN.{length, take, drop, getD, length-append, length-take, length-drop}
+use lib.Seq.{take-at, getD-take}
+use Rattle.machine.specs.declared.Stack.{Stack}
+use Rattle.machine.specs.Stack.{pushOf, popOf, topOf}
+
+-- the word that was pushed comes back
+pub top-push : (s : Stack) (word : ℕ) → topOf (pushOf s word) ≡ word
+unfolding topOf pushOf
+top-push s word = refl
+
+module _ (s : Stack) (eight : length (s .words) ≡ 8) where
+  pub push-length : (word : ℕ) → length (pushOf s word .words) ≡ 8
+  unfolding pushOf
+  push-length word = simp length-take (omega arith)
+
+  pub pop-length : length (popOf s .words) ≡ 8
+  unfolding popOf
+  pop-length = simp (length-append, length-drop) (omega arith)
+
+  -- and the stack, but for the eighth word
+  pub pop-push : (word : ℕ) → take 7 (popOf (pushOf s word) .words) ≡ take 7 (s .words)
+  unfolding popOf pushOf
+  pop-push word = take-at (take 7 (s .words)) _ 7 (simp length-take (omega arith))
