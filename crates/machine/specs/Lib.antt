@@ -2,5 +2,6 @@ pub mod Cells
 pub mod Reset
 pub mod Range
 pub mod Stack
+pub mod CellLaws
 pub mod RangeLaws
 pub mod StackLaws

@@ -1,6 +1,6 @@
 -- Check 1: the range that document 01 states for each cell, as a test and as a fact. A cell whose type holds its range needs no test.
 use mathlib.Core.Bool.{Bool, _&&_}
-use Prim.Native.Nat.{ℕ, _≤_}
+use Prim.Native.Nat.{_≤_}
 use lib.Dec.{leb}
 use Rattle.machine.specs.declared.Machine.{Machine}
 

@@ -5,6 +5,7 @@ use Prim.Native.Nat.{ℕ, _≤_}
 use lib.Dec.{leb}
 use borrow.Author.Tests.{leb-true, le-leb}
 use Rattle.machine.specs.declared.Machine.{Machine}
+use Rattle.machine.specs.Reset.{resetMachine}
 use Rattle.machine.specs.Range.{inRange, Ranged}
 
 -- the last test of a nest, and those before it
@@ -61,3 +62,7 @@ in-range m r =
       le-leb _ _ (r .input-cursor),
       le-leb _ _ (r .output-cursor),
     )
+
+pub reset-in-range : inRange resetMachine ≡ true
+unfolding inRange resetMachine
+reset-in-range = refl

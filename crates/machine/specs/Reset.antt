@@ -1,7 +1,6 @@
 -- The machine after reset (guide, section 3.6.3; its numbers stand beside the cells). What that section leaves undefined is 0 (document 01).
 use mathlib.Core.List.{List, [], _∷_}
 use Prim.Native.Nat.{ℕ}
-use Rattle.machine.specs.declared.Stack.{Stack}
 use Rattle.machine.specs.declared.Machine.{Machine}
 
 abbrev pub eightZeros : List ℕ

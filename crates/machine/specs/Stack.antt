@@ -1,5 +1,5 @@
 -- The stack: push and pop (document 01, "The stack is pushed and popped in the place where the machine holds it").
-use mathlib.Core.List.{List, [], _∷_, _++_}
+use mathlib.Core.List.{[], _∷_, _++_}
 use Prim.Native.Nat.{ℕ}
 use lib.ListN.{take, drop, getD}
 use Rattle.machine.specs.declared.Stack.{Stack}

@@ -1,10 +1,9 @@
 -- Laws of push and pop.
-use mathlib.Core.Path.{_≡_, refl, ap}
-use mathlib.Core.List.{List, [], _∷_, _++_}
-use Prim.Native.Nat.{ℕ, suc, _+_, _<_}
+use mathlib.Core.Path.{_≡_, refl}
+use Prim.Native.Nat.{ℕ}
 use native.Mathlib.Omega.{arith}
-use lib.ListN.{length, take, drop, getD, length-append, length-take, length-drop}
-use lib.Seq.{take-at, getD-take}
+use lib.ListN.{length, take, length-append, length-take, length-drop}
+use lib.Seq.{take-at}
 use Rattle.machine.specs.declared.Stack.{Stack}
 use Rattle.machine.specs.Stack.{pushOf, popOf, topOf}
 

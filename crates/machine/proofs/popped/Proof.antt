@@ -2,48 +2,36 @@ use mathlib.Core.Path.{_≡_, ap}
 use mathlib.Core.List.{List}
 use Prim.Native.Nat.{ℕ}
 use lib.ListN.{length}
-use borrow.Author.Needs.{length-unmapped}
 use Rattle.machine.specs.Stack.{popOf}
 use Rattle.machine.proofs.Eight.{pops}
 use borrow.Author.Needs.{needs}
 use Rattle.machine.proofs.popped.Statement.{statement}
 use Rattle.machine.proofs.popped.Tie as tie
-use Rattle.machine.proofs.popped.Reads as reads
-use Rattle.machine.proofs.popped.Lts as lts
 
--- src/lib.rt:123:15
 array-read-t6 : tie.Need-array-read-t6
 array-read-t6 c = search needs
 
--- src/lib.rt:123:21
 array-read-t9 : tie.Need-array-read-t9
 array-read-t9 c = search needs
 
--- src/lib.rt:123:27
 array-read-t12 : tie.Need-array-read-t12
 array-read-t12 c = search needs
 
--- src/lib.rt:123:33
 array-read-t15 : tie.Need-array-read-t15
 array-read-t15 c = search needs
 
--- src/lib.rt:123:39
 array-read-t18 : tie.Need-array-read-t18
 array-read-t18 c = search needs
 
--- src/lib.rt:123:45
 array-read-t21 : tie.Need-array-read-t21
 array-read-t21 c = search needs
 
--- src/lib.rt:123:51
 array-read-t24 : tie.Need-array-read-t24
 array-read-t24 c = search needs
 
--- src/lib.rt:123:57
 array-read-t27 : tie.Need-array-read-t27
 array-read-t27 c = search needs
 
--- src/lib.rt:119:1
 returns : tie.Need-returns
 unfolding popOf
 returns c = let l = c .before .args .s .words in let h : length l ≡ 8 = search needs in ap (λ (z : List ℕ). record { words = z }) (pops l h)
