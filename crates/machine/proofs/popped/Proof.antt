@@ -1,8 +1,3 @@
-use mathlib.Core.Path.{_≡_, ap}
-use mathlib.Core.List.{List}
-use Prim.Native.Nat.{ℕ}
-use lib.ListN.{length}
-use Rattle.machine.specs.Stack.{popOf}
 use Rattle.machine.proofs.Eight.{pops}
 use borrow.Author.Needs.{needs}
 use Rattle.machine.proofs.popped.Statement.{statement}
@@ -33,8 +28,7 @@ array-read-t27 : tie.Need-array-read-t27
 array-read-t27 c = search needs
 
 returns : tie.Need-returns
-unfolding popOf
-returns c = let l = c .before .args .s .words in let h : length l ≡ 8 = search needs in ap (λ (z : List ℕ). record { words = z }) (pops l h)
+returns c = pops (c .before .args .s) (search needs)
 
 pub popped-spec : {M : Type 1} → statement M
 popped-spec =

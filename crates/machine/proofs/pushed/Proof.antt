@@ -1,8 +1,3 @@
-use mathlib.Core.Path.{_≡_, ap}
-use mathlib.Core.List.{List}
-use Prim.Native.Nat.{ℕ}
-use lib.ListN.{length}
-use Rattle.machine.specs.Stack.{pushOf}
 use Rattle.machine.proofs.Eight.{pushes}
 use borrow.Author.Needs.{needs}
 use Rattle.machine.proofs.pushed.Statement.{statement}
@@ -30,8 +25,7 @@ array-read-t25 : tie.Need-array-read-t25
 array-read-t25 c = search needs
 
 returns : tie.Need-returns
-unfolding pushOf
-returns c = let l = c .before .args .s .words in let h : length l ≡ 8 = search needs in ap (λ (z : List ℕ). record { words = z }) (pushes l h (c .before .args .word))
+returns c = pushes (c .before .args .s) (search needs) _
 
 pub pushed-spec : {M : Type 1} → statement M
 pushed-spec =
