@@ -7,12 +7,12 @@ use lib.ListN.{getD, set}
 use Rattle.machine.specs.declared.Stack.{Stack}
 use Rattle.machine.specs.declared.Machine.{Machine}
 
--- what a cell holds: x where it is the cell that is set, else what it held
+-- x in the cell that is set; any other keeps what it held
 abbrev chosen : Bool → ℕ → ℕ → ℕ
 chosen true x held = x
 chosen false x held = held
 
--- The machine with the stack s, the auxiliary registers registers, and x in the cell of number k; every other cell is as it was. No cell has the number 0.
+-- The machine with this stack and these auxiliary registers, and x in the cell of number k; every other cell is as it was. The number 0 is no cell's.
 abbrev rebuilt : Machine → Stack → List ℕ → ℕ → ℕ → Machine
 rebuilt m s registers k x =
     record {

@@ -4,6 +4,7 @@ use Prim.Native.Nat.{_≤_}
 use lib.Dec.{leb}
 use Rattle.machine.specs.declared.Machine.{Machine}
 
+-- "1: a cell is outside its stated range" is given exactly where this test fails.
 unfoldable pub inRange : Machine → Bool
 inRange m =
     leb (m .arp) 7
@@ -20,6 +21,7 @@ inRange m =
     && leb (m .«input_cursor») 1024
     && leb (m .«output_cursor») 1024
 
+-- what a machine that passes the test is known to hold
 pub record Ranged (m : Machine) : Type 0 where
   pub arp : m .arp ≤ 7
   pub arb : m .arb ≤ 7

@@ -13,6 +13,7 @@ last : (before : Bool) {x most : ℕ} → before && leb x most ≡ true → (bef
 last true h = (refl, leb-true _ _ h)
 last false h = absurd (false≢true h)
 
+-- each bound, by the name of its cell
 pub ranged : (m : Machine) → inRange m ≡ true → Ranged m
 unfolding inRange
 ranged m h =
@@ -44,6 +45,7 @@ ranged m h =
       output-cursor = output-cursor′ .1;
     }
 
+-- and back
 pub in-range : (m : Machine) → Ranged m → inRange m ≡ true
 unfolding inRange
 in-range m r =

@@ -10,7 +10,7 @@ pub struct Stack {
 
 // The cells of document 01, "The cells of the machine". Flags and pointers are numbers, so that check 1 can find one out of its range.
 pub struct Machine {
-    // First, so that the stack lies where the machine does.
+    // First: the proofs that lend it know its place by that.
     pub stack: Stack,
     pub acc: u32,
     pub p: u32,
@@ -40,6 +40,7 @@ pub struct AfterPop {
 }
 
 impl Machine {
+    // The largest number that each cell may hold; FLAG_MAX is that of OV, OVM, SXM, C, CNF and MID.
     pub const ARP_MAX: u8 = 7;
 
     pub const ARB_MAX: u8 = 7;
@@ -54,6 +55,7 @@ impl Machine {
 
     pub const CURSOR_MAX: u16 = 1024;
 
+    // The machine after reset (guide, section 3.6.3).
     pub fn reset() -> Machine
         ensures { λ r. ⌜ r ≡ resetMachine ⌝ }
     {
@@ -127,13 +129,14 @@ pub fn top(s: Stack) -> u16
     w[0]
 }
 
-// The thin push and pop, over a stack that is lent.
+// A push on a stack that is lent.
 pub fn push(s: &mut Stack, word: u16)
     ensures { λ _. ⌜ now (s .exit) ≡ pushOf (now (s .entry)) word ⌝ }
 {
     *s = pushed(*s, word);
 }
 
+// A pop from a stack that is lent, and the word.
 pub fn pop(s: &mut Stack) -> u16
     ensures { λ r. ⌜ (r ≡ topOf (now (s .entry))) × (now (s .exit) ≡ popOf (now (s .entry))) ⌝ }
 {
