@@ -1,0 +1,143 @@
+// The decoded instruction of the base: one case for each page of section 4.3, in the families of Table 4-4.
+
+// What an indirect operand makes of AR(ARP) after its use (Table 4-1; 011 is reserved and is no case).
+pub enum Modification {
+    None,
+    Minus,
+    Plus,
+    MinusReversed,
+    MinusIndex,
+    PlusIndex,
+    PlusReversed,
+}
+
+// Bit 3 of an indirect operand: ARP stays, or becomes bits 2 to 0.
+pub enum NextArp {
+    Same,
+    To(u8),
+}
+
+// An indirect operand, 4.1.2. Branches have no other kind.
+pub struct Indirect {
+    pub modification: Modification,
+    pub next: NextArp,
+}
+
+// A data memory operand: direct with its offset in the page (4.1.1), or indirect.
+pub enum Address {
+    Direct(u8),
+    Indirect(Indirect),
+}
+
+// A shift stands first where a page has one; the constants are of 8 bits.
+pub enum Accumulator {
+    Add(u8, Address),
+    Sub(u8, Address),
+    Lac(u8, Address),
+    Addh(Address),
+    Adds(Address),
+    Subh(Address),
+    Subs(Address),
+    Subc(Address),
+    Zalh(Address),
+    Zals(Address),
+    And(Address),
+    Or(Address),
+    Xor(Address),
+    Sacl(u8, Address),
+    Sach(u8, Address),
+    Lack(u8),
+    Addk(u8),
+    Subk(u8),
+    Cmpl,
+    Neg,
+    Abs,
+    Sfl,
+    Sfr,
+}
+
+// MPYK's constant is its 13 bits, unsigned; SPM's is the new PM.
+pub enum Multiplier {
+    Lt(Address),
+    Lta(Address),
+    Ltp(Address),
+    Ltd(Address),
+    Lts(Address),
+    Mpy(Address),
+    Mpya(Address),
+    Mpys(Address),
+    Mpyk(u16),
+    Sqra(Address),
+    Sqrs(Address),
+    Mac(Address),
+    Macd(Address),
+    Pac,
+    Apac,
+    Spac,
+    Spl(Address),
+    Sph(Address),
+    Spm(u8),
+}
+
+// An auxiliary register stands first where a page has one; LDPK's constant is of 9 bits.
+pub enum Auxiliary {
+    Lar(u8, Address),
+    Sar(u8, Address),
+    Lark(u8, u8),
+    Mar(Address),
+    Adrk(u8),
+    Sbrk(u8),
+    Ldp(Address),
+    Ldpk(u16),
+}
+
+pub enum Branches {
+    B(Indirect),
+    Banz(Indirect),
+    Bz(Indirect),
+    Bnz(Indirect),
+    Bgz(Indirect),
+    Bgez(Indirect),
+    Blz(Indirect),
+    Blez(Indirect),
+    Bv(Indirect),
+    Bnv(Indirect),
+    Call(Indirect),
+    Ret,
+}
+
+// A port stands first.
+pub enum Transfers {
+    Dmov(Address),
+    In(u8, Address),
+    Out(u8, Address),
+}
+
+pub enum Modes {
+    Sovm,
+    Rovm,
+    Ssxm,
+    Rsxm,
+    Cnfd,
+    Cnfp,
+    Rpt(Address),
+    Rptk(u8),
+    Push,
+    Pop,
+}
+
+pub enum Instruction {
+    Accumulator(Accumulator),
+    Multiplier(Multiplier),
+    Auxiliary(Auxiliary),
+    Branches(Branches),
+    Transfers(Transfers),
+    Modes(Modes),
+}
+
+// What a word is: an instruction of the base, published on another page, or in no encoding.
+pub enum Decoded {
+    Base(Instruction),
+    Published,
+    Nothing,
+}
