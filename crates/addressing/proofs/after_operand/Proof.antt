@@ -1,0 +1,25 @@
+use Rattle.addressing.specs.Addressing.{addressed}
+use borrow.Author.Needs.{needs}
+use Rattle.addressing.proofs.after_operand.Statement.{statement}
+use Rattle.addressing.proofs.after_operand.Tie as tie
+
+enum-told : tie.Need-enum-told
+enum-told c = search needs
+
+enum-known-operand : tie.Need-enum-known-operand
+enum-known-operand c = search needs
+
+modify-requires : tie.Need-modify-requires
+modify-requires c κs = search needs
+
+returns : tie.Need-returns
+unfolding addressed
+returns c = rw (c .enum-told .given .1)
+
+returns-2 : tie.Need-returns-2
+unfolding addressed
+returns-2 c = rw (c .modify .ensures, c .before .before .operand .given .1)
+
+pub after-operand-spec : {M : Type 1} → statement M
+after-operand-spec =
+    tie.close (tie.spec enum-told enum-known-operand modify-requires returns returns-2)

@@ -1,0 +1,89 @@
+// Auxiliary registers by number, the address of an operand, and the modification that an indirect operand asks for.
+use instructions::Address;
+use instructions::Indirect;
+use instructions::Modification;
+use instructions::NextArp;
+use machine::Machine;
+use words::registers;
+ghost use mathlib.Core.Path.{_≡_};
+ghost use Rattle.machine.specs.Cells.{register, withRegister};
+ghost use Rattle.addressing.specs.Addressing.{moved, pointed, modified, addressed, addressOf};
+
+pub fn register_of(m: Machine, i: u8) -> u16
+    ensures { λ r. ⌜ r ≡ register m i ⌝ }
+{
+    let registers = m.ar;
+    let at = i as usize;
+    if at < 8 { registers[at] } else { 0 }
+}
+
+pub fn with_register(m: Machine, i: u8, word: u16) -> Machine
+    ensures { λ r. ⌜ r ≡ withRegister m i word ⌝ }
+{
+    let at = i as usize;
+    let mut n = m;
+    if at < 8 {
+        n.ar[at] = word;
+        return n;
+    }
+    n
+}
+
+// The register `ar` modified, with AR0 as the index.
+fn moved_register(modification: Modification, ar: u16, index: u16) -> u16
+    ensures { λ r. ⌜ r ≡ moved modification ar index ⌝ }
+{
+    match modification {
+        Modification::None => ar,
+        Modification::Minus => registers::wrapped_difference(ar, 1),
+        Modification::Plus => registers::wrapped_sum(ar, 1),
+        Modification::MinusReversed => registers::reversed_difference(ar, index),
+        Modification::MinusIndex => registers::wrapped_difference(ar, index),
+        Modification::PlusIndex => registers::wrapped_sum(ar, index),
+        Modification::PlusReversed => registers::reversed_sum(ar, index),
+    }
+}
+
+// ARP and ARB after a next ARP was asked for.
+fn point(m: Machine, next: NextArp) -> Machine
+    ensures { λ r. ⌜ r ≡ pointed next m ⌝ }
+{
+    match next {
+        NextArp::Same => m,
+        NextArp::To(arp) => {
+            let mut n = m;
+            n.arb = m.arp;
+            n.arp = arp;
+            n
+        }
+    }
+}
+
+pub fn modify(m: Machine, operand: Indirect) -> Machine
+    ensures { λ r. ⌜ r ≡ modified operand m ⌝ }
+{
+    let modification = operand.modification;
+    let next = operand.next;
+    let word = moved_register(modification, register_of(m, m.arp), register_of(m, 0));
+    point(with_register(m, m.arp, word), next)
+}
+
+// The machine after an operand's modification.
+pub fn after_operand(m: Machine, operand: Address) -> Machine
+    ensures { λ r. ⌜ r ≡ addressed operand m ⌝ }
+{
+    match operand {
+        Address::Direct(_) => m,
+        Address::Indirect(indirect) => modify(m, indirect),
+    }
+}
+
+// The address of an operand: above 65,535 only where DP is out of its range.
+pub fn address_of(m: Machine, operand: Address) -> u32
+    ensures { λ r. ⌜ r ≡ addressOf operand m ⌝ }
+{
+    match operand {
+        Address::Direct(offset) => (m.dp as u32) * 128 + offset as u32,
+        Address::Indirect(_) => register_of(m, m.arp) as u32,
+    }
+}

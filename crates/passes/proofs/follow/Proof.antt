@@ -1,0 +1,35 @@
+use native.Mathlib.Omega.{arith}
+use Rattle.passes.specs.Passes.{followed, destination}
+use Rattle.passes.specs.PassLaws.{pending}
+use borrow.Author.Needs.{needs}
+use Rattle.passes.proofs.follow.Statement.{statement}
+use Rattle.passes.proofs.follow.Tie as tie
+
+sub-n : tie.Need-sub-n
+sub-n c = omega (arith, pending (c .before .before .before .args .repeatable) (c .before .before .before .args .m .rptc) (c .before .if1 .taken))
+
+returns : tie.Need-returns
+unfolding followed destination
+returns c = rw (c .before .if1 .taken)
+
+enum-told : tie.Need-enum-told
+enum-told c = search needs
+
+wrapped-sum-requires : tie.Need-wrapped-sum-requires
+wrapped-sum-requires c κs = search needs
+
+enum-known-jump : tie.Need-enum-known-jump
+enum-known-jump c = search needs
+
+returns-2 : tie.Need-returns-2
+unfolding followed destination
+returns-2 c = rw (c .wrapped-sum .ensures, c .before .before .before .if1 .left, c .before .enum-told .given .1)
+
+returns-3 : tie.Need-returns-3
+unfolding followed destination
+returns-3 c = rw (c .before .before .before .if1 .left, c .before .jump .given .1)
+
+pub follow-spec : {M : Type 1} → statement M
+follow-spec =
+    tie.close
+    (tie.spec sub-n returns enum-told wrapped-sum-requires enum-known-jump returns-2 returns-3)
