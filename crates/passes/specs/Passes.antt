@@ -4,12 +4,17 @@ use Prim.Native.Nat.{ℕ, _-_}
 use lib.Dec.{ltb}
 use Rattle.words.specs.Registers.{wrappedSum}
 use Rattle.machine.specs.declared.Machine.{Machine}
-use Rattle.machine.specs.Cells.{withPc, withMid, withRptc}
+use Rattle.words.specs.declared.sums.Sum.{Sum}
+use Rattle.machine.specs.Cells.{withAcc, withOv, withC, withPc, withMid, withRptc}
 use Rattle.passes.specs.declared.Store.{Store}
 use Rattle.passes.specs.declared.Store.the-variants.{Nothing, Word, Move, Sent}
 use Rattle.passes.specs.declared.Jump.{Jump}
 use Rattle.passes.specs.declared.Jump.the-variants.{Past, To}
 use Rattle.passes.specs.declared.Effect.{Effect}
+
+-- the cells that a sum or a difference leaves
+abbrev pub withSum : Machine → Sum → Machine
+withSum m s = withC (withOv (withAcc m (s .acc)) (s .ov)) (s .c)
 
 -- a rule that changes cells only
 abbrev pub kept : Machine → Effect

@@ -1,7 +1,8 @@
 // What a page's rule gives, and what follows every pass.
 use machine::Machine;
+use words::sums::Sum;
 ghost use mathlib.Core.Path.{_≡_};
-ghost use Rattle.passes.specs.Passes.{kept, stored, copied, sent, jumped, followed};
+ghost use Rattle.passes.specs.Passes.{withSum, kept, stored, copied, sent, jumped, followed};
 
 // What a pass stores besides the machine's cells.
 pub enum Store {
@@ -25,6 +26,16 @@ pub struct Effect {
     pub m: Machine,
     pub store: Store,
     pub jump: Jump,
+}
+
+pub fn with_sum(m: Machine, s: Sum) -> Machine
+    ensures { λ r. ⌜ r ≡ withSum m s ⌝ }
+{
+    let mut n = m;
+    n.acc = s.acc;
+    n.ov = s.ov;
+    n.c = s.c;
+    n
 }
 
 pub fn keep(m: Machine) -> Effect

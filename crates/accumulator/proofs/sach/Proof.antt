@@ -1,0 +1,14 @@
+use Rattle.accumulator.specs.Pages.{SACH}
+use borrow.Author.Needs.{needs}
+use Rattle.accumulator.proofs.sach.Statement.{statement}
+use Rattle.accumulator.proofs.sach.Tie as tie
+
+stored-high-requires : tie.Need-stored-high-requires
+stored-high-requires c κs = search needs
+
+returns : tie.Need-returns
+unfolding SACH
+returns c = rw (c .stored-high .ensures)
+
+pub sach-spec : {M : Type 1} → statement M
+sach-spec = tie.close (tie.spec stored-high-requires returns)
