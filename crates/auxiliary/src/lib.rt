@@ -1,0 +1,88 @@
+// The pages of the auxiliary registers and the data page pointer, by value.
+use addressing::register_of;
+use addressing::with_register;
+use instructions::Auxiliary;
+use machine::Machine;
+use passes::Effect;
+use passes::keep;
+use passes::store_word;
+use words::registers;
+ghost use mathlib.Core.Path.{_≡_};
+ghost use Rattle.auxiliary.specs.Pages.{LAR, SAR, LARK, MAR, ADRK, SBRK, LDP, LDPK};
+ghost use Rattle.auxiliary.specs.Rule.{auxiliaryRule};
+
+fn lar(m: Machine, r: u8, w: u16) -> Machine
+    ensures { λ r'. ⌜ r' ≡ LAR r w m ⌝ }
+{
+    with_register(m, r, w)
+}
+
+fn sar(before: Machine, r: u8) -> u16
+    ensures { λ r'. ⌜ r' ≡ SAR r before ⌝ }
+{
+    register_of(before, r)
+}
+
+fn lark(m: Machine, r: u8, k: u8) -> Machine
+    ensures { λ r'. ⌜ r' ≡ LARK r k m ⌝ }
+{
+    with_register(m, r, k as u16)
+}
+
+fn mar(m: Machine) -> Machine
+    ensures { λ r. ⌜ r ≡ MAR m ⌝ }
+{
+    m
+}
+
+fn adrk(m: Machine, k: u8) -> Machine
+    ensures { λ r. ⌜ r ≡ ADRK k m ⌝ }
+{
+    with_register(
+        m,
+        m.arp,
+        registers::wrapped_sum(register_of(m, m.arp), k as u16),
+    )
+}
+
+fn sbrk(m: Machine, k: u8) -> Machine
+    ensures { λ r. ⌜ r ≡ SBRK k m ⌝ }
+{
+    with_register(
+        m,
+        m.arp,
+        registers::wrapped_difference(register_of(m, m.arp), k as u16),
+    )
+}
+
+fn ldp(m: Machine, w: u16) -> Machine
+    ensures { λ r. ⌜ r ≡ LDP w m ⌝ }
+{
+    let mut n = m;
+    n.dp = w % 512;
+    n
+}
+
+fn ldpk(m: Machine, k: u16) -> Machine
+    ensures { λ r. ⌜ r ≡ LDPK k m ⌝ }
+{
+    let mut n = m;
+    n.dp = k;
+    n
+}
+
+// The rule of each case, with the machine before and after the operand's modification and the data word that was read.
+pub fn rule(i: Auxiliary, before: Machine, m: Machine, w: u16) -> Effect
+    ensures { λ r. ⌜ r ≡ auxiliaryRule i before m w ⌝ }
+{
+    match i {
+        Auxiliary::Lar(r, _) => keep(lar(m, r, w)),
+        Auxiliary::Sar(r, _) => store_word(m, sar(before, r)),
+        Auxiliary::Lark(r, k) => keep(lark(m, r, k)),
+        Auxiliary::Mar(_) => keep(mar(m)),
+        Auxiliary::Adrk(k) => keep(adrk(m, k)),
+        Auxiliary::Sbrk(k) => keep(sbrk(m, k)),
+        Auxiliary::Ldp(_) => keep(ldp(m, w)),
+        Auxiliary::Ldpk(k) => keep(ldpk(m, k)),
+    }
+}

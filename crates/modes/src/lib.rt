@@ -1,0 +1,108 @@
+// The control pages, by value.
+use instructions::Modes;
+use machine::Machine;
+use machine::pop_on;
+use machine::push_on;
+use passes::Effect;
+use passes::keep;
+use words::bits;
+ghost use mathlib.Core.Path.{_≡_};
+ghost use Rattle.modes.specs.Pages.{SOVM, ROVM, SSXM, RSXM, CNFD, CNFP, RPT, RPTK, PUSH, POP};
+ghost use Rattle.modes.specs.Rule.{modesRule};
+
+fn sovm(m: Machine) -> Machine
+    ensures { λ r. ⌜ r ≡ SOVM m ⌝ }
+{
+    let mut n = m;
+    n.ovm = 1;
+    n
+}
+
+fn rovm(m: Machine) -> Machine
+    ensures { λ r. ⌜ r ≡ ROVM m ⌝ }
+{
+    let mut n = m;
+    n.ovm = 0;
+    n
+}
+
+fn ssxm(m: Machine) -> Machine
+    ensures { λ r. ⌜ r ≡ SSXM m ⌝ }
+{
+    let mut n = m;
+    n.sxm = 1;
+    n
+}
+
+fn rsxm(m: Machine) -> Machine
+    ensures { λ r. ⌜ r ≡ RSXM m ⌝ }
+{
+    let mut n = m;
+    n.sxm = 0;
+    n
+}
+
+fn cnfd(m: Machine) -> Machine
+    ensures { λ r. ⌜ r ≡ CNFD m ⌝ }
+{
+    let mut n = m;
+    n.cnf = 0;
+    n
+}
+
+fn cnfp(m: Machine) -> Machine
+    ensures { λ r. ⌜ r ≡ CNFP m ⌝ }
+{
+    let mut n = m;
+    n.cnf = 1;
+    n
+}
+
+fn rpt(w: u16, m: Machine) -> Machine
+    ensures { λ r. ⌜ r ≡ RPT w m ⌝ }
+{
+    let mut n = m;
+    n.rptc = w % 256;
+    n
+}
+
+fn rptk(k: u8, m: Machine) -> Machine
+    ensures { λ r. ⌜ r ≡ RPTK k m ⌝ }
+{
+    let mut n = m;
+    n.rptc = k as u16;
+    n
+}
+
+fn push(m: Machine) -> Machine
+    ensures { λ r. ⌜ r ≡ PUSH m ⌝ }
+{
+    push_on(m, bits::low_half(m.acc))
+}
+
+fn pop(m: Machine) -> Machine
+    ensures { λ r. ⌜ r ≡ POP m ⌝ }
+{
+    let p = pop_on(m);
+    let mut n = p.m;
+    n.acc = p.word as u32;
+    n
+}
+
+// The rule of each case, with the machine after the operand's modification and the data word that was read.
+pub fn rule(i: Modes, m: Machine, w: u16) -> Effect
+    ensures { λ r. ⌜ r ≡ modesRule i m w ⌝ }
+{
+    match i {
+        Modes::Sovm => keep(sovm(m)),
+        Modes::Rovm => keep(rovm(m)),
+        Modes::Ssxm => keep(ssxm(m)),
+        Modes::Rsxm => keep(rsxm(m)),
+        Modes::Cnfd => keep(cnfd(m)),
+        Modes::Cnfp => keep(cnfp(m)),
+        Modes::Rpt(_) => keep(rpt(w, m)),
+        Modes::Rptk(k) => keep(rptk(k, m)),
+        Modes::Push => keep(push(m)),
+        Modes::Pop => keep(pop(m)),
+    }
+}

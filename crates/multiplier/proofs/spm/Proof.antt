@@ -1,0 +1,11 @@
+use Rattle.multiplier.specs.Pages.{SPM}
+use mathlib.Core.Path.{refl}
+use Rattle.multiplier.proofs.spm.Statement.{statement}
+use Rattle.multiplier.proofs.spm.Tie as tie
+
+returns : tie.Need-returns
+unfolding SPM
+returns c = refl
+
+pub spm-spec : {M : Type 1} → statement M
+spm-spec = tie.close (tie.spec returns)

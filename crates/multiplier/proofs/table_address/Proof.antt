@@ -1,0 +1,15 @@
+use borrow.Author.Tests.{eq-eqb, ne-eqb}
+use Rattle.multiplier.specs.Pages.{tableAddress}
+use Rattle.multiplier.proofs.table_address.Statement.{statement}
+use Rattle.multiplier.proofs.table_address.Tie as tie
+
+returns : tie.Need-returns
+unfolding tableAddress
+returns c = rw (eq-eqb _ _ (c .if1 .taken))
+
+returns-2 : tie.Need-returns-2
+unfolding tableAddress
+returns-2 c = rw (ne-eqb _ _ (c .if1 .left))
+
+pub table-address-spec : {M : Type 1} → statement M
+table-address-spec = tie.close (tie.spec returns returns-2)

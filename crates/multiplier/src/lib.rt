@@ -1,0 +1,191 @@
+// The pages of the T register, the P register and the multiplier, by value.
+use instructions::Multiplier;
+use machine::Machine;
+use passes::Effect;
+use passes::copy_word;
+use passes::keep;
+use passes::store_word;
+use passes::with_sum;
+use words::products;
+use words::registers;
+use words::sums;
+ghost use mathlib.Core.Path.{_≡_};
+ghost use Rattle.machine.specs.Cells.{withP, withT};
+ghost use Rattle.multiplier.specs.Pages.{LT, LTA, LTP, LTD, LTS, MPY, MPYA, MPYS, MPYK, SQRA, SQRS, MAC, MACD, PAC, APAC, SPAC, SPL, SPH, SPM, tableAddress};
+ghost use Rattle.multiplier.specs.Rule.{multiplierRule};
+
+fn with_t(m: Machine, t: u16) -> Machine
+    ensures { λ r. ⌜ r ≡ withT m t ⌝ }
+{
+    let mut n = m;
+    n.t = t;
+    n
+}
+
+fn with_p(m: Machine, p: u32) -> Machine
+    ensures { λ r. ⌜ r ≡ withP m p ⌝ }
+{
+    let mut n = m;
+    n.p = p;
+    n
+}
+
+// The program address that a MAC or MACD reads its table word at.
+pub fn table_address(m: Machine, second: u16) -> u16
+    ensures { λ r. ⌜ r ≡ tableAddress m second ⌝ }
+{
+    if m.mid == 0 { second } else { m.pfc }
+}
+
+fn pac(m: Machine) -> Machine
+    ensures { λ r. ⌜ r ≡ PAC m ⌝ }
+{
+    let mut n = m;
+    n.acc = products::shift_product(m.p, m.pm);
+    n
+}
+
+fn apac(m: Machine) -> Machine
+    ensures { λ r. ⌜ r ≡ APAC m ⌝ }
+{
+    with_sum(
+        m,
+        sums::add(m.acc, products::shift_product(m.p, m.pm), m.ov, m.ovm),
+    )
+}
+
+fn spac(m: Machine) -> Machine
+    ensures { λ r. ⌜ r ≡ SPAC m ⌝ }
+{
+    with_sum(
+        m,
+        sums::subtract(m.acc, products::shift_product(m.p, m.pm), m.ov, m.ovm),
+    )
+}
+
+fn lt(m: Machine, w: u16) -> Machine
+    ensures { λ r. ⌜ r ≡ LT w m ⌝ }
+{
+    with_t(m, w)
+}
+
+fn lta(m: Machine, w: u16) -> Machine
+    ensures { λ r. ⌜ r ≡ LTA w m ⌝ }
+{
+    with_t(apac(m), w)
+}
+
+fn ltp(m: Machine, w: u16) -> Machine
+    ensures { λ r. ⌜ r ≡ LTP w m ⌝ }
+{
+    with_t(pac(m), w)
+}
+
+fn ltd(m: Machine, w: u16) -> Machine
+    ensures { λ r. ⌜ r ≡ LTD w m ⌝ }
+{
+    with_t(apac(m), w)
+}
+
+fn lts(m: Machine, w: u16) -> Machine
+    ensures { λ r. ⌜ r ≡ LTS w m ⌝ }
+{
+    with_t(spac(m), w)
+}
+
+fn mpy(m: Machine, w: u16) -> Machine
+    ensures { λ r. ⌜ r ≡ MPY w m ⌝ }
+{
+    with_p(m, products::product(m.t, w))
+}
+
+fn mpya(m: Machine, w: u16) -> Machine
+    ensures { λ r. ⌜ r ≡ MPYA w m ⌝ }
+{
+    with_p(apac(m), products::product(m.t, w))
+}
+
+fn mpys(m: Machine, w: u16) -> Machine
+    ensures { λ r. ⌜ r ≡ MPYS w m ⌝ }
+{
+    with_p(spac(m), products::product(m.t, w))
+}
+
+fn mpyk(m: Machine, k: u16) -> Machine
+    ensures { λ r. ⌜ r ≡ MPYK k m ⌝ }
+{
+    with_p(m, products::product(m.t, products::long_constant(k)))
+}
+
+fn sqra(m: Machine, w: u16) -> Machine
+    ensures { λ r. ⌜ r ≡ SQRA w m ⌝ }
+{
+    with_p(with_t(apac(m), w), products::product(w, w))
+}
+
+fn sqrs(m: Machine, w: u16) -> Machine
+    ensures { λ r. ⌜ r ≡ SQRS w m ⌝ }
+{
+    with_p(with_t(spac(m), w), products::product(w, w))
+}
+
+fn mac(m: Machine, w: u16, table: u16, at: u16) -> Machine
+    ensures { λ r. ⌜ r ≡ MAC w table at m ⌝ }
+{
+    let mut n = with_p(with_t(apac(m), w), products::product(w, table));
+    n.pfc = registers::wrapped_sum(at, 1);
+    n
+}
+
+fn macd(m: Machine, w: u16, table: u16, at: u16) -> Machine
+    ensures { λ r. ⌜ r ≡ MACD w table at m ⌝ }
+{
+    mac(m, w, table, at)
+}
+
+fn spl(m: Machine) -> u16
+    ensures { λ r. ⌜ r ≡ SPL m ⌝ }
+{
+    products::product_low(m.p, m.pm)
+}
+
+fn sph(m: Machine) -> u16
+    ensures { λ r. ⌜ r ≡ SPH m ⌝ }
+{
+    products::product_high(m.p, m.pm)
+}
+
+fn spm(m: Machine, k: u8) -> Machine
+    ensures { λ r. ⌜ r ≡ SPM k m ⌝ }
+{
+    let mut n = m;
+    n.pm = k;
+    n
+}
+
+// The rule of each case, with the machine after the operand's modification, the data word that was read, and the program word of a MAC or MACD with its address.
+pub fn rule(i: Multiplier, m: Machine, w: u16, table: u16, at: u16) -> Effect
+    ensures { λ r. ⌜ r ≡ multiplierRule i m w table at ⌝ }
+{
+    match i {
+        Multiplier::Lt(_) => keep(lt(m, w)),
+        Multiplier::Lta(_) => keep(lta(m, w)),
+        Multiplier::Ltp(_) => keep(ltp(m, w)),
+        Multiplier::Ltd(_) => copy_word(ltd(m, w), w),
+        Multiplier::Lts(_) => keep(lts(m, w)),
+        Multiplier::Mpy(_) => keep(mpy(m, w)),
+        Multiplier::Mpya(_) => keep(mpya(m, w)),
+        Multiplier::Mpys(_) => keep(mpys(m, w)),
+        Multiplier::Mpyk(k) => keep(mpyk(m, k)),
+        Multiplier::Sqra(_) => keep(sqra(m, w)),
+        Multiplier::Sqrs(_) => keep(sqrs(m, w)),
+        Multiplier::Mac(_) => keep(mac(m, w, table, at)),
+        Multiplier::Macd(_) => copy_word(macd(m, w, table, at), w),
+        Multiplier::Pac => keep(pac(m)),
+        Multiplier::Apac => keep(apac(m)),
+        Multiplier::Spac => keep(spac(m)),
+        Multiplier::Spl(_) => store_word(m, spl(m)),
+        Multiplier::Sph(_) => store_word(m, sph(m)),
+        Multiplier::Spm(k) => keep(spm(m, k)),
+    }
+}

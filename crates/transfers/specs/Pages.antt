@@ -1,0 +1,20 @@
+-- The pages of DMOV, IN and OUT. The machine is that after the operand's modification, w the data word that was read.
+use mathlib.Core.Bool.{Bool, cond}
+use Prim.Native.Nat.{ℕ}
+use Rattle.words.specs.Registers.{wrappedSum}
+use Rattle.machine.specs.declared.Machine.{Machine}
+use Rattle.machine.specs.Cells.{withInputCursor, withOutputCursor}
+use Rattle.passes.specs.declared.Effect.{Effect}
+use Rattle.passes.specs.Passes.{stored, copied, sent}
+
+-- "(dma) -> dma + 1", where document 01 allows a data move
+unfoldable pub DMOV : ℕ → Machine → Effect
+DMOV w m = copied m w
+
+-- The next word of the input slice is stored. "An IN from a port run dry stores 0 and moves no cursor."
+unfoldable pub IN : Bool → ℕ → Machine → Effect
+IN dry next m = cond dry (stored m 0) (stored (withInputCursor m (wrappedSum (m .«input_cursor») 1)) next)
+
+-- the data word is sent
+unfoldable pub OUT : ℕ → Machine → Effect
+OUT w m = sent (withOutputCursor m (wrappedSum (m .«output_cursor») 1)) w

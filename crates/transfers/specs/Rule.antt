@@ -1,0 +1,13 @@
+-- The rule of the family: each case by its page, with the next word of the input and whether there is none.
+use mathlib.Core.Bool.{Bool}
+use Prim.Native.Nat.{ℕ}
+use Rattle.machine.specs.declared.Machine.{Machine}
+use Rattle.instructions.specs.declared.Transfers.{Transfers}
+use Rattle.instructions.specs.declared.Transfers.the-variants.{Dmov, In, Out}
+use Rattle.passes.specs.declared.Effect.{Effect}
+use Rattle.transfers.specs.Pages.{DMOV, IN, OUT}
+
+unfoldable pub transfersRule : Transfers → Machine → ℕ → Bool → ℕ → Effect
+transfersRule (Dmov operand) m w dry next = DMOV w m
+transfersRule (In port operand) m w dry next = IN dry next m
+transfersRule (Out port operand) m w dry next = OUT w m
