@@ -1,17 +1,16 @@
+use Rattle.branches.specs.Signs.{is-positive}
+use native.Mathlib.Omega.{arith}
+use Rattle.branches.specs.Pages.{BGZ}
 use borrow.Author.Needs.{needs}
 use Rattle.branches.proofs.bgz.Statement.{statement}
 use Rattle.branches.proofs.bgz.Tie as tie
-use Rattle.branches.proofs.bgz.Reads as reads
-use Rattle.branches.proofs.bgz.Lts as lts
-use Rattle.branches.proofs.branch.Reads as branch-reads
 
--- src/lib.rt:49:5
 branch-requires : tie.Need-branch-requires
 branch-requires c κs = search needs
 
--- src/lib.rt:46:1
 returns : tie.Need-returns
-returns c = ?
+unfolding BGZ
+returns c = rw (c .branch .ensures, ← is-positive (c .before .before .before .args .m .acc) (omega arith))
 
 pub bgz-spec : {M : Type 1} → statement M
 bgz-spec = tie.close (tie.spec branch-requires returns)

@@ -1,11 +1,11 @@
+use Rattle.modes.specs.Pages.{SOVM}
+use mathlib.Core.Path.{refl}
 use Rattle.modes.proofs.sovm.Statement.{statement}
 use Rattle.modes.proofs.sovm.Tie as tie
-use Rattle.modes.proofs.sovm.Reads as reads
-use Rattle.modes.proofs.sovm.Lts as lts
 
--- src/lib.rt:13:1
 returns : tie.Need-returns
-returns c = ?
+unfolding SOVM
+returns c = refl
 
 pub sovm-spec : {M : Type 1} → statement M
 sovm-spec = tie.close (tie.spec returns)
