@@ -8,8 +8,9 @@ use Rattle.instructions.specs.declared.Modification.the-variants.{None, Minus, 
 use Rattle.instructions.specs.declared.NextArp.{NextArp}
 use Rattle.instructions.specs.declared.NextArp.the-variants.{Same, To}
 use Rattle.instructions.specs.declared.Indirect.{Indirect}
-use Rattle.instructions.specs.declared.Address.{Address}
-use Rattle.instructions.specs.declared.Address.the-variants as Operand
+use Rattle.instructions.specs.declared.Address.the-variants as Mode
+use Rattle.addressing.specs.declared.operands.Operand.{Operand}
+use Rattle.addressing.specs.declared.operands.Operand.the-variants.{Nothing, At}
 
 -- the register that ARP points at, with AR0 as the index
 unfoldable pub moved : Modification → ℕ → ℕ → ℕ
@@ -33,11 +34,13 @@ modified operand m =
     (withRegister m (m .arp) (moved (operand .modification) (register m (m .arp)) (register m 0)))
 
 -- the machine after an operand's modification: a direct one has none
-unfoldable pub addressed : Address → Machine → Machine
-addressed (Operand.Direct offset) m = m
-addressed (Operand.Indirect operand) m = modified operand m
+unfoldable pub addressed : Operand → Machine → Machine
+addressed Nothing m = m
+addressed (At (Mode.Direct offset)) m = m
+addressed (At (Mode.Indirect operand)) m = modified operand m
 
 -- direct: "128 x DP + bits 6 to 0"; indirect: "AR(ARP)"
-unfoldable pub addressOf : Address → Machine → ℕ
-addressOf (Operand.Direct offset) m = m .dp * 128 + offset
-addressOf (Operand.Indirect operand) m = register m (m .arp)
+unfoldable pub addressOf : Operand → Machine → ℕ
+addressOf Nothing m = 0
+addressOf (At (Mode.Direct offset)) m = m .dp * 128 + offset
+addressOf (At (Mode.Indirect operand)) m = register m (m .arp)

@@ -1,9 +1,12 @@
 // Auxiliary registers by number, the address of an operand, and the modification that an indirect operand asks for.
+pub mod operands;
+
 use instructions::Address;
 use instructions::Indirect;
 use instructions::Modification;
 use instructions::NextArp;
 use machine::Machine;
+use operands::Operand;
 use words::registers;
 ghost use mathlib.Core.Path.{_≡_};
 ghost use Rattle.machine.specs.Cells.{register, withRegister};
@@ -69,21 +72,27 @@ pub fn modify(m: Machine, operand: Indirect) -> Machine
 }
 
 // The machine after an operand's modification.
-pub fn after_operand(m: Machine, operand: Address) -> Machine
+pub fn after_operand(m: Machine, operand: Operand) -> Machine
     ensures { λ r. ⌜ r ≡ addressed operand m ⌝ }
 {
     match operand {
-        Address::Direct(_) => m,
-        Address::Indirect(indirect) => modify(m, indirect),
+        Operand::Nothing => m,
+        Operand::At(address) => match address {
+            Address::Direct(_) => m,
+            Address::Indirect(indirect) => modify(m, indirect),
+        },
     }
 }
 
 // The address of an operand: above 65,535 only where DP is out of its range.
-pub fn address_of(m: Machine, operand: Address) -> u32
+pub fn address_of(m: Machine, operand: Operand) -> u32
     ensures { λ r. ⌜ r ≡ addressOf operand m ⌝ }
 {
     match operand {
-        Address::Direct(offset) => (m.dp as u32) * 128 + offset as u32,
-        Address::Indirect(_) => register_of(m, m.arp) as u32,
+        Operand::Nothing => 0,
+        Operand::At(address) => match address {
+            Address::Direct(offset) => (m.dp as u32) * 128 + offset as u32,
+            Address::Indirect(_) => register_of(m, m.arp) as u32,
+        },
     }
 }

@@ -1,0 +1,29 @@
+use Rattle.addressing.specs.Operands.{transfersOperand}
+use borrow.Author.Needs.{needs}
+use Rattle.addressing.proofs.operands.transfers_operand.Statement.{statement}
+use Rattle.addressing.proofs.operands.transfers_operand.Tie as tie
+
+enum-known-i : tie.Need-enum-known-i
+enum-known-i c = search needs
+
+enum-known-i-2 : tie.Need-enum-known-i-2
+enum-known-i-2 c = search needs
+
+enum-known-i-3 : tie.Need-enum-known-i-3
+enum-known-i-3 c = search needs
+
+returns : tie.Need-returns
+unfolding transfersOperand
+returns c = rw (c .before .i .given .1)
+
+returns-2 : tie.Need-returns-2
+unfolding transfersOperand
+returns-2 c = rw (c .before .i2 .given .1)
+
+returns-3 : tie.Need-returns-3
+unfolding transfersOperand
+returns-3 c = rw (c .before .i3 .given .1)
+
+pub transfers-operand-spec : {M : Type 1} → statement M
+transfers-operand-spec =
+    tie.close (tie.spec enum-known-i enum-known-i-2 enum-known-i-3 returns returns-2 returns-3)
