@@ -1,0 +1,23 @@
+-- One rule for every instruction of the base, by its family.
+use mathlib.Core.Bool.{Bool}
+use Prim.Native.Nat.{ℕ}
+use Rattle.machine.specs.declared.Machine.{Machine}
+use Rattle.instructions.specs.declared.Instruction.{Instruction}
+use Rattle.instructions.specs.declared.Instruction.the-variants.{Accumulator, Multiplier, Auxiliary, Branches, Transfers, Modes}
+use Rattle.passes.specs.declared.Effect.{Effect}
+use Rattle.accumulator.specs.Rule.{accumulatorRule}
+use Rattle.multiplier.specs.Rule.{multiplierRule}
+use Rattle.auxiliary.specs.Rule.{auxiliaryRule}
+use Rattle.branches.specs.Rule.{branchesRule}
+use Rattle.transfers.specs.Rule.{transfersRule}
+use Rattle.modes.specs.Rule.{modesRule}
+use Rattle.rules.specs.declared.Words.{Words}
+
+-- `before` is the machine before the operand's modification and m the machine after it
+unfoldable pub ruleOf : Instruction → Machine → Machine → Words → Effect
+ruleOf (Accumulator i) before m words = accumulatorRule i m (words .operand)
+ruleOf (Multiplier i) before m words = multiplierRule i m (words .operand) (words .table) (words .at)
+ruleOf (Auxiliary i) before m words = auxiliaryRule i before m (words .operand)
+ruleOf (Branches i) before m words = branchesRule i before m (words .second)
+ruleOf (Transfers i) before m words = transfersRule i m (words .operand) (words .dry) (words .next)
+ruleOf (Modes i) before m words = modesRule i m (words .operand)
