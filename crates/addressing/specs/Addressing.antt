@@ -9,8 +9,8 @@ use Rattle.instructions.specs.declared.NextArp.{NextArp}
 use Rattle.instructions.specs.declared.NextArp.the-variants.{Same, To}
 use Rattle.instructions.specs.declared.Indirect.{Indirect}
 use Rattle.instructions.specs.declared.Address.the-variants as Mode
-use Rattle.addressing.specs.declared.operands.Operand.{Operand}
-use Rattle.addressing.specs.declared.operands.Operand.the-variants.{Nothing, At}
+use Rattle.traits.specs.declared.Operand.{Operand}
+use Rattle.traits.specs.declared.Operand.the-variants.{Nothing, At}
 
 -- the register that ARP points at, with AR0 as the index
 unfoldable pub moved : Modification → ℕ → ℕ → ℕ

@@ -1,12 +1,11 @@
 // Auxiliary registers by number, the address of an operand, and the modification that an indirect operand asks for.
-pub mod operands;
 
 use instructions::Address;
 use instructions::Indirect;
 use instructions::Modification;
 use instructions::NextArp;
 use machine::Machine;
-use operands::Operand;
+use traits::Operand;
 use words::registers;
 ghost use mathlib.Core.Path.{_≡_};
 ghost use Rattle.machine.specs.Cells.{register, withRegister};
