@@ -1,6 +1,6 @@
 -- A promise about numbers is a promise about answers: no two answers share a number.
 use mathlib.Core.Path.{_≡_, refl, sym, ap, _∙_}
-use mathlib.Core.Bool.{Bool, true, false}
+use mathlib.Core.Bool.{true, cond}
 use mathlib.Core.List.{List, [], _∷_}
 use Prim.Native.Nat.{ℕ}
 use lib.Dec.{eqb}
@@ -9,14 +9,10 @@ use Rattle.answers.specs.declared.Answer.{Answer}
 use Rattle.answers.specs.declared.Answer.the-variants.{Done, CellOutOfRange, SlicesUnfit, NoEncoding, NotInBase, ProgramAbsent, DataAbsent, NotRepeatable, AddressAbove, WrongPort, OutputFull, FileShort, FileVersion, FileRules, FileNoRoom}
 use Rattle.answers.specs.Numbers.{numberOf, isDone}
 
-chosen : Bool → Answer → Answer → Answer
-chosen true a other = a
-chosen false a other = other
-
 -- the first answer of a list that has the number n
 firstOf : ℕ → List Answer → Answer
 firstOf n [] = Done
-firstOf n (a ∷ rest) = chosen (eqb n (numberOf a)) a (firstOf n rest)
+firstOf n (a ∷ rest) = cond (eqb n (numberOf a)) a (firstOf n rest)
 
 answerWith : ℕ → Answer
 answerWith n =
@@ -39,7 +35,7 @@ answerWith n =
     ∷ [])
 
 back : (a : Answer) → answerWith (numberOf a) ≡ a
-unfolding answerWith firstOf chosen
+unfolding answerWith firstOf
 back Done = refl
 back CellOutOfRange = refl
 back SlicesUnfit = refl
