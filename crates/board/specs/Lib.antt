@@ -3,7 +3,6 @@ pub mod Regions
 pub mod Slices
 pub mod Windows
 -- laws
--- pub mod RegionLaws
+pub mod RegionLaws
 pub mod SliceLaws
-
--- pub mod WindowLaws
+pub mod WindowLaws
