@@ -83,8 +83,8 @@ module _ (d : List ℕ) (page offset word : ℕ) where
   page-after =
       either-way (λ (x : List ℕ). drop (128 * page + 128) x ≡ drop (128 * page + 128) d)
       (λ h.
-        drop-put (128 * page) (128 * page + 128) d (written d page offset word) (omega arith) h
-        (length-set (lent d page) offset word ∙ mid-len (128 * page) (128 * page + 128) d h))
+      drop-put (128 * page) (128 * page + 128) d (written d page offset word) (omega arith) h
+      (length-set (lent d page) offset word ∙ mid-len (128 * page) (128 * page + 128) d h))
       refl
 
   pub page-length : length (pageStored d page offset word) ≡ length d
@@ -98,8 +98,8 @@ module _ (d : List ℕ) (page offset word : ℕ) where
   page-outside far =
       either-way (λ (x : List ℕ). x ≡ d)
       (λ h.
-        let out : length (lent d page) ≤ offset = rw (mid-len (128 * page) (128 * page + 128) d h) (omega arith) in
-        rw (set-out (lent d page) offset word out) (put-same (128 * page) (count page) d))
+      let out : length (lent d page) ≤ offset = rw (mid-len (128 * page) (128 * page + 128) d h) (omega arith) in
+      rw (set-out (lent d page) offset word out) (put-same (128 * page) (count page) d))
       refl
 
   -- in the page it is the one store at 128 times the page plus the offset

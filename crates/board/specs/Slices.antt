@@ -11,9 +11,13 @@ use Rattle.machine.specs.declared.Machine.{Machine}
 unfoldable pub memoriesFit : List ℕ → List ℕ → Bool
 memoriesFit rom «data» = eqb (length rom) 4096 && eqb (length «data») 4096
 
--- "a port slice is over 1,024, a cursor is past its slice"; a cursor at the slice's end is not past it
+-- "a port slice is over 1,024, a cursor is past its slice"; a cursor at the slice's end is not past it (ruling R14)
 unfoldable pub portFits : ℕ → ℕ → Bool
 portFits size cursor = leb size 1024 && leb cursor size
+
+-- "An IN from a port run dry"; "OUT with the output slice full"
+unfoldable pub portSpent : ℕ → ℕ → Bool
+portSpent size cursor = leb size cursor
 
 -- "2" is given in a step or a run exactly where this test fails
 unfoldable pub slicesFit : Machine → List ℕ → List ℕ → List ℕ → ℕ → Bool

@@ -38,6 +38,7 @@ unfoldable pub windowShown : Machine → ℕ → List ℕ → List ℕ → List 
 windowShown m address rom «data» =
     cond (isDone (windowAnswer m address rom «data»)) (windowOf (m .cnf) address rom «data») []
 
+-- the output slice and its cursor are all that is lent here (ruling R32)
 unfoldable pub wordsSentAnswer : Machine → List ℕ → Answer
 wordsSentAnswer m output =
     cond (inRange m)
@@ -45,7 +46,7 @@ wordsSentAnswer m output =
     SlicesUnfit)
     CellOutOfRange
 
--- "the words sent so far can be asked for as a part of the caller's own slice": the output slice up to the cursor
+-- "the words sent so far can be asked for as a part of the caller's own slice": the output slice up to the cursor, whatever stood before a cursor handed in above 0 (ruling R32)
 unfoldable pub wordsSent : Machine → List ℕ → List ℕ
 wordsSent m output =
     cond (isDone (wordsSentAnswer m output)) (take (m .«output_cursor») output) []

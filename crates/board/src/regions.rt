@@ -2,7 +2,7 @@
 ghost use mathlib.Core.Path.{_≡_};
 ghost use Rattle.board.specs.Regions.{present, onChipRegion, dataRegion, dataPresent, onChip, moveAllowed, inRom, inProgramB0, programPresent};
 
-// Where a data address lies.
+// Where a data address lies. One function, data_region, knows the ranges.
 pub enum Region {
     Absent,
     B2,
@@ -59,6 +59,7 @@ pub fn data_present(cnf: u8, address: u16) -> bool
     region_present(data_region(cnf, address))
 }
 
+// Whether an address is in an on-chip block that is now in data space.
 pub fn on_chip(cnf: u8, address: u16) -> bool
     ensures { λ r. ⌜ r ≡ onChip cnf address ⌝ }
 {

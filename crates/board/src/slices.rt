@@ -3,7 +3,7 @@ ghost use mathlib.Core.Path.{_≡_};
 ghost use Prim.Native.Nat.{min};
 ghost use lib.ListN.{length, getD, set};
 ghost use lib.Seq.{slice};
-ghost use Rattle.board.specs.Slices.{memoriesFit, portFits, slicesFit, pageStored};
+ghost use Rattle.board.specs.Slices.{memoriesFit, portFits, portSpent, slicesFit, pageStored};
 use machine::Machine;
 
 const MEMORY_WORDS: usize = 4096;
@@ -12,16 +12,25 @@ const PORT_WORDS_MAX: usize = 1024;
 
 const PAGE_WORDS: usize = 128;
 
+// Each of the two memories is of its size.
 pub fn memories_fit(rom: &[u16], data: &[u16]) -> bool
     ensures { λ r. ⌜ r ≡ memoriesFit (now (rom .entry)) (now («data» .entry)) ⌝ }
 {
     (rom.len() == MEMORY_WORDS) & (data.len() == MEMORY_WORDS)
 }
 
+// A port's slice is not over its size, and its cursor not past it.
 pub fn port_fits(size: usize, cursor: u16) -> bool
     ensures { λ r. ⌜ r ≡ portFits size cursor ⌝ }
 {
     (size <= PORT_WORDS_MAX) & (cursor as usize <= size)
+}
+
+// Whether nothing is left of a port's slice: an input run dry, an output that is full.
+pub fn port_spent(size: usize, cursor: u16) -> bool
+    ensures { λ r. ⌜ r ≡ portSpent size cursor ⌝ }
+{
+    size <= cursor as usize
 }
 
 // Check 2 of a step or a run.
@@ -46,7 +55,7 @@ fn lesser(a: usize, b: usize) -> usize
     if a < b { a } else { b }
 }
 
-// The words at `from` up to, not including, `to`, as far as there are any.
+// The words at `from` up to, not including, `to`. The bounds are cut to the slice, so that every caller is answered.
 pub fn part<'a>(words: &'a [u16], from: usize, to: usize) -> &'a [u16]
     ensures { λ r. ⌜ now r ≡ slice from to (now (words .entry)) ⌝ }
 {
@@ -55,6 +64,7 @@ pub fn part<'a>(words: &'a [u16], from: usize, to: usize) -> &'a [u16]
     &words[start..end]
 }
 
+// A word of a slice, 0 where there is none.
 fn word_at(words: &[u16], at: u16) -> u16
     ensures { λ r. ⌜ r ≡ getD (now (words .entry)) at 0 ⌝ }
 {

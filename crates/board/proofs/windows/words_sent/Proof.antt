@@ -17,7 +17,7 @@ cast-sent : tie.Need-cast-sent
 cast-sent c = search needs
 
 slice-aggregate-result : tie.Need-slice-aggregate-result
-slice-aggregate-result c = sym (length-take-le _ _ (sent-done _ _ (sym (c .before .before .before .is-done .ensures ∙ ap isDone (c .before .before .before .before .words-sent-answer .ensures)) ∙ c .before .before .if1 .taken) .cursor))
+slice-aggregate-result c = sym (length-take-le _ _ (sent-done _ _ (sym (c .before .before .before .is-done .ensures ∙ ap isDone (c .before .before .before .before .words-sent-answer .ensures)) ∙ c .before .before .if1 .taken) .port .not-past))
 
 returns : tie.Need-returns
 unfolding wordsSent
