@@ -1,5 +1,5 @@
 -- Where the addresses of each region lie; B0 is never in both spaces; a data move stays on chip.
-use mathlib.Core.Path.{_≡_, refl, sym, ap, subst, _∙_}
+use mathlib.Core.Path.{_≡_, refl, subst}
 use mathlib.Core.Bool.{Bool, true, false, cond, _&&_, false≢true}
 use Prim.Native.Nat.{ℕ, _+_, _≤_, _<_}
 use native.Mathlib.Omega.{arith}
@@ -7,6 +7,7 @@ use borrow.Author.Tests.{leb-true, ltb-true, eqb-true}
 use Rattle.board.specs.declared.regions.Region.{Region}
 use Rattle.board.specs.declared.regions.Region.the-variants.{Absent, B2, B0, B1, External}
 use Rattle.board.specs.Regions.{within, dataRegion, present, onChipRegion, dataPresent, onChip, moveAllowed, inRom, inProgramB0, programPresent}
+use Rattle.board.specs.Facts.{Lies, Moves, InProgramB0}
 
 pub both : (t u : Bool) → t && u ≡ true → (t ≡ true) × (u ≡ true)
 both true u h = (refl, h)
@@ -14,14 +15,6 @@ both false u h = absurd (false≢true h)
 
 bounds : (first last a : ℕ) → within first last a ≡ true → (first ≤ a) × (a ≤ last)
 bounds first last a h = let p = both _ _ h in (leb-true _ _ (p .0), leb-true _ _ (p .1))
-
--- what its region says of a data address
-abbrev pub Lies : ℕ → ℕ → Region → Type 0
-Lies cnf a Absent = Unit
-Lies cnf a B2 = (0x60 ≤ a) × (a ≤ 0x7F)
-Lies cnf a B0 = (0x200 ≤ a) × (a ≤ 0x2FF) × (cnf ≡ 0)
-Lies cnf a B1 = (0x300 ≤ a) × (a ≤ 0x3FF)
-Lies cnf a External = (0x400 ≤ a) × (a ≤ 0xFFF)
 
 case : (P : Region → Type 0) (t : Bool) (x rest : Region) → (t ≡ true → P x) → P rest → P (cond t x rest)
 case P true x rest f r = f refl
@@ -70,11 +63,6 @@ unfolding onChip
 on-chip-below cnf a h = lies-on-chip cnf a (dataRegion cnf a) (region-lies cnf a) h
 
 -- a data move that is made reads and writes addresses on chip
-pub record Moves (cnf a : ℕ) : Type 0 where
-  pub from : onChip cnf a ≡ true
-  pub to : onChip cnf (a + 1) ≡ true
-  pub below : a + 1 < 1024
-
 pub moves : (cnf a : ℕ) → moveAllowed cnf a ≡ true → Moves cnf a
 unfolding moveAllowed
 moves cnf a h =
@@ -84,11 +72,6 @@ moves cnf a h =
 pub rom-below : (a : ℕ) → inRom a ≡ true → a < 4096
 unfolding inRom
 rom-below a h = ltb-true _ _ h
-
-pub record InProgramB0 (cnf a : ℕ) : Type 0 where
-  pub first : 0xFF00 ≤ a
-  pub last : a ≤ 0xFFFF
-  pub cnf-one : cnf ≡ 1
 
 pub program-b0 : (cnf a : ℕ) → inProgramB0 cnf a ≡ true → InProgramB0 cnf a
 unfolding inProgramB0

@@ -1,7 +1,7 @@
 -- Laws of parts, of check 2 and of the page store.
-use mathlib.Core.Path.{_≡_, refl, sym, ap, _∙_}
-use mathlib.Core.Bool.{Bool, true, false, cond, _&&_}
-use mathlib.Core.List.{List, [], _∷_, _++_, append-assoc}
+use mathlib.Core.Path.{_≡_, refl, ap, _∙_}
+use mathlib.Core.Bool.{Bool, true, false, _&&_}
+use mathlib.Core.List.{List, [], _∷_, append-assoc}
 use Prim.Native.Nat.{ℕ, zero, suc, _+_, _*_, _-_, _/_, _%_, _≤_, _<_, min}
 use native.Mathlib.Omega.{arith}
 use native.Mathlib.Numerals.{unary-clauses}
@@ -9,10 +9,12 @@ use lib.Dec.{leb, eqb}
 use lib.ListN.{length, take, drop, set, length-take, length-set}
 use lib.Seq.{slice, take-nil, set-out}
 use borrow.Author.Tests.{le-leb, lt-leb, leb-true, leb-false, eqb-true}
-use borrow.Rule.Slice.PartMut.{midOf, putMid, mid-len, post-is, put-same, set-mid-at, same-len-mid, take-put, drop-put}
+use borrow.Rule.Slice.PartMut.{mid-len, post-is, put-same, set-mid-at, same-len-mid, take-put, drop-put}
 use Rattle.board.specs.Slices.{memoriesFit, portFits, slicesFit, pagePart, pageStored}
 use Rattle.board.specs.RegionLaws.{both}
 use Rattle.machine.specs.declared.Machine.{Machine}
+use Rattle.board.specs.Facts.{MemoriesFit, PortFits, SlicesFit}
+use Rattle.board.specs.PageLent.{count, lent, written, rejoined}
 
 -- a part, by its start and how many words it has
 pub part-counted : (f t : ℕ) (l : List ℕ) → take (t - f) (drop f l) ≡ slice f t l
@@ -39,20 +41,6 @@ part-cut f t l = rw (take-min t l, ← length-take t l) (drop-min f (take t l))
 -- bounds cut down to the words that are there give the same part
 pub part-shown : (f t : ℕ) (l : List ℕ) (start end : ℕ) → end ≡ min t (length l) → start ≡ min f end → take (end - start) (drop start l) ≡ slice f t l
 part-shown f t l start end he hs = rw (part-counted start end l, hs, he) (part-cut f t l)
-
--- the page part as it is lent, and with the word in it
-abbrev pub count : ℕ → ℕ
-count page = 128 * page + 128 - 128 * page
-
-abbrev pub lent : List ℕ → ℕ → List ℕ
-lent d page = midOf (128 * page) (count page) d
-
-abbrev pub written : List ℕ → ℕ → ℕ → ℕ → List ℕ
-written d page offset word = set (lent d page) offset word
-
--- the whole after the part has come back
-abbrev pub rejoined : List ℕ → ℕ → ℕ → ℕ → List ℕ
-rejoined d page offset word = putMid (128 * page) (count page) d (written d page offset word)
 
 module _ (d : List ℕ) (page offset word : ℕ) where
   pub page-put : 128 * page + 128 ≤ length d → pageStored d page offset word ≡ rejoined d page offset word
@@ -114,31 +102,17 @@ address-set d address word h below =
     let e : 128 * (address / 128) + address % 128 ≡ address = omega arith in
     page-set d (address / 128) (address % 128) word (omega arith) (omega arith) ∙ rw e
 
-pub record MemoriesFit (rom d : List ℕ) : Type 0 where
-  pub rom-size : length rom ≡ 4096
-  pub data-size : length d ≡ 4096
-
 pub memories-fit : (rom d : List ℕ) → memoriesFit rom d ≡ true → MemoriesFit rom d
 unfolding memoriesFit
 memories-fit rom d h =
     let p = both (eqb (length rom) 4096) _ h in
     record { rom-size = eqb-true _ _ (p .0); data-size = eqb-true _ _ (p .1) }
 
-pub record PortFits (size cursor : ℕ) : Type 0 where
-  pub size-most : size ≤ 1024
-  pub not-past : cursor ≤ size
-
 pub port-fits : (size cursor : ℕ) → portFits size cursor ≡ true → PortFits size cursor
 unfolding portFits
 port-fits size cursor h =
     let p = both (leb size 1024) _ h in
     record { size-most = leb-true _ _ (p .0); not-past = leb-true _ _ (p .1) }
-
--- what is known of the slices after check 2
-pub record SlicesFit (m : Machine) (rom d input : List ℕ) (outputLength : ℕ) : Type 0 where
-  pub memories : MemoriesFit rom d
-  pub input-port : PortFits (length input) (m .«input_cursor»)
-  pub output-port : PortFits outputLength (m .«output_cursor»)
 
 pub slices-fit : (m : Machine) (rom d input : List ℕ) (outputLength : ℕ) → slicesFit m rom d input outputLength ≡ true → SlicesFit m rom d input outputLength
 unfolding slicesFit

@@ -1,11 +1,10 @@
 -- The window is not empty exactly where its answer is Done, and its first word is the program word; the words sent are the first words of the output slice.
-use mathlib.Core.Path.{_≡_, refl, sym, ap, _∙_}
+use mathlib.Core.Path.{_≡_, refl, sym, _∙_}
 use mathlib.Core.Bool.{Bool, true, false, cond, _||_, false≢true}
 use mathlib.Core.List.{List, []}
-use Prim.Native.Nat.{ℕ, _+_, _-_, _≤_, _<_}
+use Prim.Native.Nat.{ℕ, _+_, _-_, _<_}
 use native.Mathlib.Omega.{arith}
-use lib.Dec.{ltb}
-use lib.ListN.{length, take, drop, getD}
+use lib.ListN.{length, take, getD}
 use lib.Seq.{slice, length-slice, length-take-le, getD-take, getD-drop}
 use borrow.Author.Tests.{le-ltb}
 use Rattle.machine.specs.declared.Machine.{Machine}
@@ -16,8 +15,9 @@ use Rattle.answers.specs.Numbers.{isDone}
 use Rattle.board.specs.Regions.{inRom, inProgramB0, programPresent}
 use Rattle.board.specs.Slices.{memoriesFit, portFits}
 use Rattle.board.specs.Windows.{windowOf, programWord, windowAnswer, windowShown, wordsSentAnswer, wordsSent}
-use Rattle.board.specs.RegionLaws.{rom-below, program-b0, InProgramB0}
-use Rattle.board.specs.SliceLaws.{MemoriesFit, memories-fit, PortFits, port-fits}
+use Rattle.board.specs.RegionLaws.{rom-below, program-b0}
+use Rattle.board.specs.SliceLaws.{memories-fit, port-fits}
+use Rattle.board.specs.Facts.{InProgramB0, MemoriesFit, WindowDone, SentDone}
 
 -- ---- the window of an address
 
@@ -79,11 +79,6 @@ check-holds : (t : Bool) (next refusal : Answer) → isDone refusal ≡ false �
 check-holds true next refusal n h = (refl, h)
 check-holds false next refusal n h = absurd (false≢true (sym n ∙ h))
 
-pub record WindowDone (m : Machine) (a : ℕ) (rom d : List ℕ) : Type 0 where
-  pub in-range : inRange m ≡ true
-  pub memories : memoriesFit rom d ≡ true
-  pub is-present : programPresent (m .cnf) a ≡ true
-
 module _ (m : Machine) (a : ℕ) (rom d : List ℕ) where
   pub window-done : isDone (windowAnswer m a rom d) ≡ true → WindowDone m a rom d
   unfolding windowAnswer
@@ -112,10 +107,6 @@ module _ (m : Machine) (a : ℕ) (rom d : List ℕ) where
       by : (p : Bool) (w : List ℕ) → (p ≡ false → w ≡ []) → cond (isDone (cond p Done ProgramAbsent)) w [] ≡ w
       by true w f = refl
       by false w f = sym (f refl)
-
-pub record SentDone (m : Machine) (output : List ℕ) : Type 0 where
-  pub in-range : inRange m ≡ true
-  pub port : PortFits (length output) (m .«output_cursor»)
 
 module _ (m : Machine) (output : List ℕ) where
   pub sent-done : isDone (wordsSentAnswer m output) ≡ true → SentDone m output
