@@ -1,7 +1,7 @@
 // The lent slices: their sizes, words and parts read from them, stores into them.
 ghost use mathlib.Core.Path.{_≡_};
 ghost use Prim.Native.Nat.{min};
-ghost use lib.ListN.{length, getD, set};
+ghost use lib.ListN.{getD, set};
 ghost use lib.Seq.{slice};
 ghost use Rattle.board.specs.Slices.{memoriesFit, portFits, portSpent, slicesFit, pageStored};
 use machine::Machine;
