@@ -1,0 +1,42 @@
+use Rattle.plans.specs.Pass.{performed, passedMachine, passedWrite, effectOf}
+use borrow.Author.Needs.{needs}
+use Rattle.plans.proofs.perform.Statement.{statement}
+use Rattle.plans.proofs.perform.Tie as tie
+
+traits-of-requires : tie.Need-traits-of-requires
+traits-of-requires c κs = search needs
+
+words-read-requires : tie.Need-words-read-requires
+words-read-requires c κs = search needs
+
+after-operand-requires : tie.Need-after-operand-requires
+after-operand-requires c κs = search needs
+
+rule-requires : tie.Need-rule-requires
+rule-requires c κs = search needs
+
+follow-requires : tie.Need-follow-requires
+follow-requires c κs = search needs
+
+address-of-requires : tie.Need-address-of-requires
+address-of-requires c κs = search needs
+
+write-of-requires : tie.Need-write-of-requires
+write-of-requires c κs = search needs
+
+returns : tie.Need-returns
+unfolding performed passedMachine passedWrite effectOf
+returns c = rw (c .write-of .ensures, c .before .address-of .ensures, c .before .before .follow .ensures, c .before .before .before .before .rule .ensures, c .before .before .before .before .before .after-operand .ensures, c .before .before .before .before .before .before .words-read .ensures, c .before .before .before .before .before .before .before .traits-of .ensures)
+
+pub perform-spec : {M : Type 1} → statement M
+perform-spec =
+    tie.close
+    (tie.spec
+    traits-of-requires
+    words-read-requires
+    after-operand-requires
+    rule-requires
+    follow-requires
+    address-of-requires
+    write-of-requires
+    returns)

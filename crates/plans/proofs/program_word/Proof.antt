@@ -1,0 +1,25 @@
+use mathlib.Core.Path.{sym}
+use native.Mathlib.Omega.{arith}
+use Rattle.board.specs.Windows.{programWord}
+use lib.ListN.{List·getD-eq-default}
+use borrow.Author.Needs.{needs}
+use Rattle.plans.proofs.program_word.Statement.{statement}
+use Rattle.plans.proofs.program_word.Tie as tie
+
+region-window-requires : tie.Need-region-window-requires
+region-window-requires c κs = search needs
+
+shared-slice-read-result : tie.Need-shared-slice-read-result
+shared-slice-read-result c = search needs
+
+returns : tie.Need-returns
+unfolding programWord
+returns c = rw (c .before .before .region-window .ensures)
+
+returns-2 : tie.Need-returns-2
+unfolding programWord
+returns-2 c = rw (← c .before .region-window .ensures) (sym (List·getD-eq-default (c .before .region-window .result .now) 0 {n = 0} (omega arith)))
+
+pub program-word-spec : {M : Type 1} → statement M
+program-word-spec =
+    tie.close (tie.spec region-window-requires shared-slice-read-result returns returns-2)

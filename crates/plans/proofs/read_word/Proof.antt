@@ -1,0 +1,33 @@
+use Rattle.plans.specs.Pass.{readWord}
+use borrow.Author.Needs.{needs}
+use Rattle.plans.proofs.read_word.Statement.{statement}
+use Rattle.plans.proofs.read_word.Tie as tie
+
+enum-told : tie.Need-enum-told
+enum-told c = search needs
+
+enum-told-2 : tie.Need-enum-told-2
+enum-told-2 c = search needs
+
+word-at-requires : tie.Need-word-at-requires
+word-at-requires c κs = search needs
+
+enum-told-3 : tie.Need-enum-told-3
+enum-told-3 c = search needs
+
+returns : tie.Need-returns
+unfolding readWord
+returns c = rw (c .enum-told .given .1)
+
+returns-2 : tie.Need-returns-2
+unfolding readWord
+returns-2 c = rw (c .word-at .ensures, c .before .enum-told2 .given .1)
+
+returns-3 : tie.Need-returns-3
+unfolding readWord
+returns-3 c = rw (c .enum-told3 .given .1)
+
+pub read-word-spec : {M : Type 1} → statement M
+read-word-spec =
+    tie.close
+    (tie.spec enum-told enum-told-2 word-at-requires enum-told-3 returns returns-2 returns-3)
