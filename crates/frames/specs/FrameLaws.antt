@@ -1,0 +1,48 @@
+-- The law of a stack of frames with product shift 3, whatever OVM is.
+use mathlib.Core.Path.{_≡_, refl, sym, _∙_, ap}
+use mathlib.Core.Logic.{_↔_}
+use mathlib.Core.List.{List}
+use Prim.Native.Nat.{ℕ, _+_, _*_, _^_, _≤_, _<_}
+use native.Mathlib.Omega.{arith}
+use native.Mathlib.Decide.{decLe}
+use lib.IntN.{ℤ, pos, _-ℤ_, _*ℤ_}
+use lib.ListN.{length}
+use Rattle.words.specs.Whole.{up, dn, part, minus-is, times-is, le-from}
+use Rattle.words.specs.Word.{signed}
+use Rattle.frames.specs.Frames.{Pair, Accumulation, fromZero, productAdded, passed, stacked, exactSum, Near, Words, AllLeast}
+use Rattle.frames.specs.PassSums.{Reach, floors, from-zero, add-fits, add-over, floors-near, floors-in, floors-top, floors-least}
+
+module _ (ws : List Pair) (n ovm : ℕ) (frames : length ws ≡ n) (words : Words ws) where
+  -- where the final sum fits
+  fits : n ≤ 128 → up (floors ws) < 2 ^ 31 → (stacked 3 ovm ws .ov ≡ 0) × Near n (exactSum ws) (signed 32 (stacked 3 ovm ws .acc))
+  unfolding stacked
+  fits l h =
+      let i = floors-in ws words in
+      let a = add-fits (passed 3 ovm ws fromZero) (floors ws) ovm (from-zero ws ovm words (omega arith)) h (omega (arith, i .below)) in
+      let near = floors-near ws in
+      let t = times-is 64 (floors ws) in
+      let d = minus-is (exactSum ws) (pos 64 *ℤ floors ws) in
+      (a .1, record { from = rw (a .0) (le-from (omega arith)); to = rw (a .0) (le-from (omega arith)) })
+
+  -- where it does not
+  over : n ≤ 128 → 2 ^ 31 ≤ up (floors ws) → stacked 3 ovm ws .ov ≡ 1
+  unfolding stacked
+  over l h = add-over (passed 3 ovm ws fromZero) (floors ws) ovm (from-zero ws ovm words (omega arith)) h
+
+  -- "for n from 1 to 127 OV stays 0 and 0 <= S - 64 A <= 63 n"
+  pub below-128 : 1 ≤ n → n ≤ 127 → (stacked 3 ovm ws .ov ≡ 0) × Near n (exactSum ws) (signed 32 (stacked 3 ovm ws .acc))
+  below-128 h l = fits (omega arith) (omega (arith, floors-in ws words .above))
+
+-- "for n = 128 OV is set exactly when all 256 words read are -32768, and otherwise the same bounds hold"
+pub at-128 : (ws : List Pair) (ovm : ℕ) → length ws ≡ 128 → Words ws
+    → (stacked 3 ovm ws .ov ≡ 1 ↔ AllLeast ws) × ((AllLeast ws → ⊥) → (stacked 3 ovm ws .ov ≡ 0) × Near 128 (exactSum ws) (signed 32 (stacked 3 ovm ws .acc)))
+at-128 ws ovm frames words = go (decLe (2 ^ 31) (up (floors ws)))
+  where
+    go : Dec (2 ^ 31 ≤ up (floors ws))
+        → (stacked 3 ovm ws .ov ≡ 1 ↔ AllLeast ws) × ((AllLeast ws → ⊥) → (stacked 3 ovm ws .ov ≡ 0) × Near 128 (exactSum ws) (signed 32 (stacked 3 ovm ws .acc)))
+    go (yes h) =
+        let all = floors-top ws words (omega arith) in
+        (((λ e. all), (λ a. over ws 128 ovm frames words (omega arith) h)), (λ none. absurd (none all)))
+    go (no h) =
+        let r = fits ws 128 ovm frames words (omega arith) (omega arith) in
+        (((λ e. absurd (omega (arith, r .0))), (λ a. absurd (omega (arith, ap up (floors-least ws a))))), (λ none. r))
