@@ -58,6 +58,10 @@ pub record Near (n : ℕ) (S A : ℤ) : Type 0 where
   pub from : pos 0 ≤ℤ (S -ℤ pos 64 *ℤ A)
   pub to : (S -ℤ pos 64 *ℤ A) ≤ℤ pos (63 * n)
 
+-- what the n passes over these words leave: "OV stays 0 and 0 <= S - 64 A <= 63 n", with A "the accumulator read as signed"
+abbrev pub Bounded : ℕ → List Pair → Accumulation → Type 0
+Bounded n ws s = (s .ov ≡ 0) × Near n (exactSum ws) (signed 32 (s .acc))
+
 -- what holds of the words of every pass
 unfoldable pub Every : (Pair → Type 0) → List Pair → Type 0
 Every holds [] = Unit {0}

@@ -1,9 +1,9 @@
 -- definitions
 pub mod Frames
--- the law
-pub mod FrameLaws
--- computed cases
 pub mod FrameCases
--- laws that the proofs cite
+-- the law, and the computed cases
+pub mod FrameLaws
+pub mod CaseLaws
+-- laws that their proofs cite
 pub mod ProductBounds
 pub mod PassSums

@@ -108,10 +108,11 @@ module _ (s : Accumulation) (z : ℤ) (ovm : ℕ) (r : Pending s z) where
   unfolding accumulated floored
   pass-pending w fx fy h k =
       let a = add-fits h k in
+      let e : signed 32 (accumulated 3 ovm w s .acc) ≡ z = a .0 in
       record {
         p-fits = productWord-lt (w .dataWord) (w .programWord);
         ov-zero = a .1;
-        comes-to = rw (a .0, productWord-is (w .dataWord) (w .programWord) fx fy);
+        comes-to = rw (e, productWord-is (w .dataWord) (w .programWord) fx fy);
       }
 
 passes-pending : (ws : List Pair) (s : Accumulation) (z : ℤ) (k ovm : ℕ) → Words ws → Pending s z → Reach k z → k + length ws ≤ 128 → Pending (passed 3 ovm ws s) (z +ℤ floors ws)
