@@ -1,16 +1,20 @@
 -- The law of a stack of frames with product shift 3, whatever OVM is.
-use mathlib.Core.Path.{_≡_, refl, sym, _∙_, ap}
+use mathlib.Core.Path.{_≡_, ap}
 use mathlib.Core.Logic.{_↔_}
 use mathlib.Core.List.{List}
-use Prim.Native.Nat.{ℕ, _+_, _*_, _^_, _≤_, _<_}
+use Prim.Native.Nat.{ℕ, _^_, _≤_, _<_}
 use native.Mathlib.Omega.{arith}
 use native.Mathlib.Decide.{decLe}
-use lib.IntN.{ℤ, pos, _-ℤ_, _*ℤ_}
+use lib.IntN.{pos, _*ℤ_}
 use lib.ListN.{length}
-use Rattle.words.specs.Whole.{up, dn, part, minus-is, times-is, le-from}
+use Rattle.words.specs.Whole.{up, minus-is, times-is, le-from}
 use Rattle.words.specs.Word.{signed}
-use Rattle.frames.specs.Frames.{Pair, Accumulation, fromZero, productAdded, passed, stacked, exactSum, Near, Bounded, Words, AllLeast}
-use Rattle.frames.specs.PassSums.{Reach, floors, from-zero, add-fits, add-over, floors-near, floors-in, floors-top, floors-least}
+use Rattle.frames.specs.Frames.{Pair, fromZero, passed, stacked, exactSum, Bounded, Words, AllLeast}
+use Rattle.frames.specs.PassSums.{floors, from-zero, add-fits, add-over, floors-near, floors-in, floors-top, floors-least}
+
+-- In up to 128 passes OV stays 0: only the final product add can set it
+pub passes-keep-ov : (ws : List Pair) (ovm : ℕ) → length ws ≤ 128 → Words ws → passed 3 ovm ws fromZero .ov ≡ 0
+passes-keep-ov ws ovm l words = from-zero ws ovm words l .ov-zero
 
 module _ (ws : List Pair) (n ovm : ℕ) (frames : length ws ≡ n) (words : Words ws) where
   -- where the final sum fits

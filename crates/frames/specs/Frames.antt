@@ -75,6 +75,9 @@ Words = Every (λ w. (w .dataWord < 2 ^ 16) × (w .programWord < 2 ^ 16))
 unfoldable pub Least : ℕ → Type 0
 Least word = signed 16 word ≡ negℤ (pos 32768)
 
+unfoldable pub BothLeast : Pair → Type 0
+BothLeast w = Least (w .dataWord) × Least (w .programWord)
+
 -- "all .. words read are -32768"
 unfoldable pub AllLeast : List Pair → Type 0
-AllLeast = Every (λ w. Least (w .dataWord) × Least (w .programWord))
+AllLeast = Every BothLeast

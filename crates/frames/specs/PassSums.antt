@@ -1,9 +1,9 @@
 -- What passes with product shift 3 leave: ACC and the product still to be added come to the sum of the products over 64, each rounded down.
-use mathlib.Core.Path.{_≡_, refl, sym, _∙_, ap, ap₂, subst}
+use mathlib.Core.Path.{_≡_, refl, _∙_, ap, subst}
 use mathlib.Core.List.{List, [], _∷_}
-use Prim.Native.Nat.{ℕ, zero, suc, _+_, _*_, _^_, _≤_, _<_}
+use Prim.Native.Nat.{ℕ, _+_, _*_, _^_, _≤_, _<_}
 use native.Mathlib.Omega.{arith}
-use lib.IntN.{ℤ, pos, negsuc, negℤ, _+ℤ_, +ℤ-assoc, +ℤ-idr, +ℤ-idl}
+use lib.IntN.{ℤ, pos, negsuc, _+ℤ_, +ℤ-assoc, +ℤ-idr, +ℤ-idl}
 use lib.ListN.{length}
 use lib.Signed.{shrZ}
 use Rattle.words.specs.Whole.{up, dn, part, add-is, floor-le, floor-lt, eq-from, no-up}
@@ -11,8 +11,8 @@ use Rattle.words.specs.Word.{signed}
 use Rattle.words.specs.Sums.{settled, added}
 use Rattle.words.specs.SumLaws.{holds-in, holds-over}
 use Rattle.words.specs.WordLaws.{signed-low}
-use Rattle.words.specs.Products.{product, productWord, shiftedProduct}
-use Rattle.frames.specs.Frames.{Pair, Accumulation, fromZero, productAdded, accumulated, passed, exactSum, Every, Words, Least, AllLeast}
+use Rattle.words.specs.Products.{product, shiftedProduct}
+use Rattle.frames.specs.Frames.{Pair, Accumulation, fromZero, productAdded, accumulated, passed, exactSum, Every, Words, Least, BothLeast, AllLeast}
 use Rattle.frames.specs.ProductBounds.{product-in, product-top, productWord-is, productWord-lt, shifted-is}
 
 -- ---- one sum
@@ -144,9 +144,15 @@ floors-in (w ∷ ws) f =
     subst (λ (n : ℕ). Reach n (floored w +ℤ floors ws)) (omega arith)
     (reach-sum 1 (length ws) (floored w) (floors ws) (floored-in w (f .0 .0) (f .0 .1)) (floors-in ws (f .1)))
 
--- it reaches its bound only where every word is -32768
+-- it reaches its bound where every word is -32768
+pub floors-least : (ws : List Pair) → AllLeast ws → floors ws ≡ pos (length ws * 2 ^ 24)
+unfolding Every BothLeast AllLeast floors
+floors-least [] h = refl
+floors-least (w ∷ ws) h = rw (floored-least w (h .0 .0) (h .0 .1), floors-least ws (h .1)) (ap pos (omega arith))
+
+-- and nowhere else
 pub floors-top : (ws : List Pair) → Words ws → length ws * 2 ^ 24 ≤ up (floors ws) → AllLeast ws
-unfolding Every Words AllLeast floors
+unfolding Every Words BothLeast AllLeast floors
 floors-top [] f h = tt
 floors-top (w ∷ ws) f h =
     let q = floored-in w (f .0 .0) (f .0 .1) in
@@ -154,8 +160,3 @@ floors-top (w ∷ ws) f h =
     let a = add-is (floored w) (floors ws) in
     let n = part (floored w +ℤ floors ws) (λ d. d) (λ u d. absurd (omega arith)) in
     (floored-top w (f .0 .0) (f .0 .1) (omega (arith, q .above, i .above)), floors-top ws (f .1) (omega (arith, q .above, i .above)))
-
-pub floors-least : (ws : List Pair) → AllLeast ws → floors ws ≡ pos (length ws * 2 ^ 24)
-unfolding Every AllLeast floors
-floors-least [] h = refl
-floors-least (w ∷ ws) h = rw (floored-least w (h .0 .0) (h .0 .1), floors-least ws (h .1)) (ap pos (omega arith))

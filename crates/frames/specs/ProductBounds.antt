@@ -1,13 +1,13 @@
 -- Bounds of the product of two 16-bit words and of the shifted product, in parts that omega reads.
-use mathlib.Core.Path.{_≡_, refl, ap}
-use Prim.Native.Nat.{ℕ, zero, suc, _+_, _*_, _-_, _/_, _^_, _≤_, _<_}
+use mathlib.Core.Path.{_≡_}
+use Prim.Native.Nat.{ℕ, suc, _*_, _-_, _^_, _≤_, _<_}
 use native.Mathlib.Omega.{arith, by-contra, both-ways}
 use native.Mathlib.Nat.{mul-le-mul}
 use lib.IntN.{ℤ, pos, negsuc, _*ℤ_}
 use lib.Signed.{shrZ}
-use Rattle.words.specs.Whole.{up, dn, part, neg-is, no-up, one-times}
-use Rattle.words.specs.Word.{signed, low}
-use Rattle.words.specs.WordLaws.{signed-is, signed-low, low-lt, Within, within-16, within-32}
+use Rattle.words.specs.Whole.{up, dn, neg-is, one-times}
+use Rattle.words.specs.Word.{signed}
+use Rattle.words.specs.WordLaws.{signed-low, low-lt, Within, within-16, within-32}
 use Rattle.words.specs.Products.{product, productWord, scaled, amountOf, shiftedProduct}
 
 -- two factors at most 2 ^ 15
