@@ -35,6 +35,7 @@ least-words n = every-same _ least (omega arith, omega arith) n
 pub cases : Cases
 unfolding least allLeast firstChanged lastChanged allLost fromZero productAdded accumulated passed stacked exactSum AllLeast Least BothLeast signed low holds held settled carry added product productWord scaled amountOf shiftedProduct
 cases = record {
+  at-1 = λ ovm. refl;
   at-127 = λ ovm. refl;
   at-128-held = refl;
   at-128-low-bits = refl;

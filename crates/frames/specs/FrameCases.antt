@@ -27,6 +27,7 @@ allLost n = replicate n (record { dataWord = 63; programWord = 1 })
 
 -- document 01's bench values of the third demand ("Demand 3 with all words -32768"), and their neighbours
 pub record Cases : Type 0 where
+  pub at-1 : (ovm : ℕ) → stacked 3 ovm (allLeast 1) ≡ record { acc = 0x0100_0000; p = 0x4000_0000; ov = 0 }
   pub at-127 : (ovm : ℕ) → stacked 3 ovm (allLeast 127) ≡ record { acc = 0x7F00_0000; p = 0x4000_0000; ov = 0 }
   pub at-128-held : stacked 3 1 (allLeast 128) ≡ record { acc = 0x7FFF_FFFF; p = 0x4000_0000; ov = 1 }
   pub at-128-low-bits : stacked 3 0 (allLeast 128) ≡ record { acc = 0x8000_0000; p = 0x4000_0000; ov = 1 }

@@ -69,15 +69,15 @@ module _ (w : Pair) (fx : w .dataWord < 2 ^ 16) (fy : w .programWord < 2 ^ 16) w
   unfolding floored
   floored-in = let b = product-in (w .dataWord) (w .programWord) fx fy in floor-in (product (w .dataWord) (w .programWord)) (b .0) (b .1)
 
-  floored-top : 2 ^ 24 ≤ up (floored w) → Least (w .dataWord) × Least (w .programWord)
-  unfolding floored
+  floored-top : 2 ^ 24 ≤ up (floored w) → BothLeast w
+  unfolding floored BothLeast
   floored-top h =
       let t = product-top (w .dataWord) (w .programWord) fx fy (floor-top (product (w .dataWord) (w .programWord)) h) in
       (least (w .dataWord) (t .0), least (w .programWord) (t .1))
 
-floored-least : (w : Pair) → Least (w .dataWord) → Least (w .programWord) → floored w ≡ pos (2 ^ 24)
-unfolding floored product Least
-floored-least w h k = rw (h, k)
+floored-least : (w : Pair) → BothLeast w → floored w ≡ pos (2 ^ 24)
+unfolding floored product Least BothLeast
+floored-least w h = rw (h .0, h .1)
 
 -- ---- ACC and the product still to be added
 
@@ -146,13 +146,13 @@ floors-in (w ∷ ws) f =
 
 -- it reaches its bound where every word is -32768
 pub floors-least : (ws : List Pair) → AllLeast ws → floors ws ≡ pos (length ws * 2 ^ 24)
-unfolding Every BothLeast AllLeast floors
+unfolding Every AllLeast floors
 floors-least [] h = refl
-floors-least (w ∷ ws) h = rw (floored-least w (h .0 .0) (h .0 .1), floors-least ws (h .1)) (ap pos (omega arith))
+floors-least (w ∷ ws) h = rw (floored-least w (h .0), floors-least ws (h .1)) (ap pos (omega arith))
 
 -- and nowhere else
 pub floors-top : (ws : List Pair) → Words ws → length ws * 2 ^ 24 ≤ up (floors ws) → AllLeast ws
-unfolding Every Words BothLeast AllLeast floors
+unfolding Every Words AllLeast floors
 floors-top [] f h = tt
 floors-top (w ∷ ws) f h =
     let q = floored-in w (f .0 .0) (f .0 .1) in
