@@ -9,9 +9,9 @@ use Rattle.instructions.specs.declared.Transfers.the-variants.{Dmov, In,
 use Rattle.instructions.specs.declared.Modes.the-variants.{Rpt, Rptk, Sovm, Rovm, Ssxm, Rsxm, Cnfd, Cnfp, Push, Pop}
 use Rattle.instructions.specs.Encoding.{accumulator, multiplier, auxiliary, branches, transfers, modes}
 
--- The base's pages with direct and indirect addressing, "IDDD DDDD".
-abbrev pub addressedBase : List Row
-addressedBase =
+-- The base: the accumulator.
+abbrev pub accumulatorPages : List Row
+accumulatorPages =
     row "ADD" "0000 SSSS" "IDDD DDDD" (λ f low. accumulator (Add (f "S") (addressOf low))) ∷
     row "SUB" "0001 SSSS" "IDDD DDDD" (λ f low. accumulator (Sub (f "S") (addressOf low))) ∷
     row "LAC" "0010 SSSS" "IDDD DDDD" (λ f low. accumulator (Lac (f "S") (addressOf low))) ∷
@@ -27,6 +27,19 @@ addressedBase =
     row "XOR" "0100 1100" "IDDD DDDD" (λ f low. accumulator (Xor (addressOf low))) ∷
     row "SACL" "0110 0XXX" "IDDD DDDD" (λ f low. accumulator (Sacl (f "X") (addressOf low))) ∷
     row "SACH" "0110 1XXX" "IDDD DDDD" (λ f low. accumulator (Sach (f "X") (addressOf low))) ∷
+    row "LACK" "1100 1010" "KKKK KKKK" (λ f low. accumulator (Lack (f "K"))) ∷
+    row "ADDK" "1100 1100" "KKKK KKKK" (λ f low. accumulator (Addk (f "K"))) ∷
+    row "SUBK" "1100 1101" "KKKK KKKK" (λ f low. accumulator (Subk (f "K"))) ∷
+    row "CMPL" "1100 1110" "0010 0111" (λ f low. accumulator Cmpl) ∷
+    row "NEG" "1100 1110" "0010 0011" (λ f low. accumulator Neg) ∷
+    row "ABS" "1100 1110" "0001 1011" (λ f low. accumulator Abs) ∷
+    row "SFL" "1100 1110" "0001 1000" (λ f low. accumulator Sfl) ∷
+    row "SFR" "1100 1110" "0001 1001" (λ f low. accumulator Sfr) ∷
+    []
+
+-- The base: T, P and multiplication.
+abbrev pub multiplierPages : List Row
+multiplierPages =
     row "LT" "0011 1100" "IDDD DDDD" (λ f low. multiplier (Lt (addressOf low))) ∷
     row "LTA" "0011 1101" "IDDD DDDD" (λ f low. multiplier (Lta (addressOf low))) ∷
     row "LTP" "0011 1110" "IDDD DDDD" (λ f low. multiplier (Ltp (addressOf low))) ∷
@@ -41,19 +54,29 @@ addressedBase =
     row "MACD" "0101 1100" "IDDD DDDD" (λ f low. multiplier (Macd (addressOf low))) ∷
     row "SPL" "0111 1100" "IDDD DDDD" (λ f low. multiplier (Spl (addressOf low))) ∷
     row "SPH" "0111 1101" "IDDD DDDD" (λ f low. multiplier (Sph (addressOf low))) ∷
+    row "MPYK" "101K KKKK" "KKKK KKKK" (λ f low. multiplier (Mpyk (f "K"))) ∷
+    row "PAC" "1100 1110" "0001 0100" (λ f low. multiplier Pac) ∷
+    row "APAC" "1100 1110" "0001 0101" (λ f low. multiplier Apac) ∷
+    row "SPAC" "1100 1110" "0001 0110" (λ f low. multiplier Spac) ∷
+    row "SPM" "1100 1110" "0000 10KK" (λ f low. multiplier (Spm (f "K"))) ∷
+    []
+
+-- The base: auxiliary registers and the data page.
+abbrev pub auxiliaryPages : List Row
+auxiliaryPages =
     row "LAR" "0011 0RRR" "IDDD DDDD" (λ f low. auxiliary (Lar (f "R") (addressOf low))) ∷
     row "SAR" "0111 0RRR" "IDDD DDDD" (λ f low. auxiliary (Sar (f "R") (addressOf low))) ∷
     row "MAR" "0101 0101" "IDDD DDDD" (λ f low. auxiliary (Mar (addressOf low))) ∷
     row "LDP" "0101 0010" "IDDD DDDD" (λ f low. auxiliary (Ldp (addressOf low))) ∷
-    row "DMOV" "0101 0110" "IDDD DDDD" (λ f low. transfers (Dmov (addressOf low))) ∷
-    row "IN" "1000 AAAA" "IDDD DDDD" (λ f low. transfers (In (f "A") (addressOf low))) ∷
-    row "OUT" "1110 AAAA" "IDDD DDDD" (λ f low. transfers (Out (f "A") (addressOf low))) ∷
-    row "RPT" "0100 1011" "IDDD DDDD" (λ f low. modes (Rpt (addressOf low))) ∷
+    row "LARK" "1100 0RRR" "KKKK KKKK" (λ f low. auxiliary (Lark (f "R") (f "K"))) ∷
+    row "ADRK" "0111 1110" "KKKK KKKK" (λ f low. auxiliary (Adrk (f "K"))) ∷
+    row "SBRK" "0111 1111" "KKKK KKKK" (λ f low. auxiliary (Sbrk (f "K"))) ∷
+    row "LDPK" "1100 100K" "KKKK KKKK" (λ f low. auxiliary (Ldpk (f "K"))) ∷
     []
 
--- The base's branches and CALL, "1DDD DDDD". BZ is lost: Table 4-4 (ruling R6).
-abbrev pub branchBase : List Row
-branchBase =
+-- The base: branches, CALL and RET. BZ is lost: Table 4-4 (ruling R6).
+abbrev pub branchPages : List Row
+branchPages =
     row "B" "1111 1111" "1DDD DDDD" (λ f low. branches (B (indirectOf low))) ∷
     row "BANZ" "1111 1011" "1DDD DDDD" (λ f low. branches (Banz (indirectOf low))) ∷
     row "BZ" "1111 0110" "1DDD DDDD" (λ f low. branches (Bz (indirectOf low))) ∷
@@ -65,35 +88,22 @@ branchBase =
     row "BV" "1111 0000" "1DDD DDDD" (λ f low. branches (Bv (indirectOf low))) ∷
     row "BNV" "1111 0111" "1DDD DDDD" (λ f low. branches (Bnv (indirectOf low))) ∷
     row "CALL" "1111 1110" "1DDD DDDD" (λ f low. branches (Call (indirectOf low))) ∷
-    []
-
--- The base's pages with a constant.
-abbrev pub constantBase : List Row
-constantBase =
-    row "LACK" "1100 1010" "KKKK KKKK" (λ f low. accumulator (Lack (f "K"))) ∷
-    row "ADDK" "1100 1100" "KKKK KKKK" (λ f low. accumulator (Addk (f "K"))) ∷
-    row "SUBK" "1100 1101" "KKKK KKKK" (λ f low. accumulator (Subk (f "K"))) ∷
-    row "MPYK" "101K KKKK" "KKKK KKKK" (λ f low. multiplier (Mpyk (f "K"))) ∷
-    row "LARK" "1100 0RRR" "KKKK KKKK" (λ f low. auxiliary (Lark (f "R") (f "K"))) ∷
-    row "ADRK" "0111 1110" "KKKK KKKK" (λ f low. auxiliary (Adrk (f "K"))) ∷
-    row "SBRK" "0111 1111" "KKKK KKKK" (λ f low. auxiliary (Sbrk (f "K"))) ∷
-    row "LDPK" "1100 100K" "KKKK KKKK" (λ f low. auxiliary (Ldpk (f "K"))) ∷
-    row "RPTK" "1100 1011" "KKKK KKKK" (λ f low. modes (Rptk (f "K"))) ∷
-    []
-
--- The base's pages whose upper byte is CEh. ROVM is lost: Table 4-4 (ruling R6).
-abbrev pub controlBase : List Row
-controlBase =
-    row "CMPL" "1100 1110" "0010 0111" (λ f low. accumulator Cmpl) ∷
-    row "NEG" "1100 1110" "0010 0011" (λ f low. accumulator Neg) ∷
-    row "ABS" "1100 1110" "0001 1011" (λ f low. accumulator Abs) ∷
-    row "SFL" "1100 1110" "0001 1000" (λ f low. accumulator Sfl) ∷
-    row "SFR" "1100 1110" "0001 1001" (λ f low. accumulator Sfr) ∷
-    row "PAC" "1100 1110" "0001 0100" (λ f low. multiplier Pac) ∷
-    row "APAC" "1100 1110" "0001 0101" (λ f low. multiplier Apac) ∷
-    row "SPAC" "1100 1110" "0001 0110" (λ f low. multiplier Spac) ∷
-    row "SPM" "1100 1110" "0000 10KK" (λ f low. multiplier (Spm (f "K"))) ∷
     row "RET" "1100 1110" "0010 0110" (λ f low. branches Ret) ∷
+    []
+
+-- The base: the data move and the ports.
+abbrev pub transferPages : List Row
+transferPages =
+    row "DMOV" "0101 0110" "IDDD DDDD" (λ f low. transfers (Dmov (addressOf low))) ∷
+    row "IN" "1000 AAAA" "IDDD DDDD" (λ f low. transfers (In (f "A") (addressOf low))) ∷
+    row "OUT" "1110 AAAA" "IDDD DDDD" (λ f low. transfers (Out (f "A") (addressOf low))) ∷
+    []
+
+-- The base: modes, repeats and the stack. ROVM is lost: Table 4-4 (ruling R6).
+abbrev pub modePages : List Row
+modePages =
+    row "RPT" "0100 1011" "IDDD DDDD" (λ f low. modes (Rpt (addressOf low))) ∷
+    row "RPTK" "1100 1011" "KKKK KKKK" (λ f low. modes (Rptk (f "K"))) ∷
     row "SOVM" "1100 1110" "0000 0011" (λ f low. modes Sovm) ∷
     row "ROVM" "1100 1110" "0000 0010" (λ f low. modes Rovm) ∷
     row "SSXM" "1100 1110" "0000 0111" (λ f low. modes Ssxm) ∷
@@ -104,9 +114,9 @@ controlBase =
     row "POP" "1100 1110" "0001 1101" (λ f low. modes Pop) ∷
     []
 
--- The other pages with direct and indirect addressing.
-abbrev pub addressedOther : List Row
-addressedOther =
+-- Not in the base: pages with direct and indirect addressing.
+abbrev pub otherAddressed : List Row
+otherAddressed =
     other "ADDC" "0100 0011" "IDDD DDDD" ∷
     other "ADDT" "0100 1010" "IDDD DDDD" ∷
     other "LACT" "0100 0010" "IDDD DDDD" ∷
@@ -129,9 +139,9 @@ addressedOther =
     other "SST1" "0111 1001" "IDDD DDDD" ∷
     []
 
--- The other branches.
-abbrev pub branchOther : List Row
-branchOther =
+-- Not in the base: branches.
+abbrev pub otherBranches : List Row
+otherBranches =
     other "BBNZ" "1111 1001" "1DDD DDDD" ∷
     other "BBZ" "1111 1000" "1DDD DDDD" ∷
     other "BC" "0101 1110" "1DDD DDDD" ∷
@@ -139,9 +149,9 @@ branchOther =
     other "BNC" "0101 1111" "1DDD DDDD" ∷
     []
 
--- The other pages whose upper byte is CEh. SC is lost: Table 4-4 (ruling R6).
-abbrev pub controlOther : List Row
-controlOther =
+-- Not in the base: pages with the upper byte CEh. SC is lost: Table 4-4 (ruling R6).
+abbrev pub otherControls : List Row
+otherControls =
     other "BACC" "1100 1110" "0010 0101" ∷
     other "CALA" "1100 1110" "0010 0100" ∷
     other "CMPR" "1100 1110" "0101 00KK" ∷
@@ -167,9 +177,9 @@ controlOther =
     other "NORM" "1100 1110" "1MMM 0010" ∷
     []
 
--- The long immediates.
-abbrev pub longOther : List Row
-longOther =
+-- Not in the base: the long immediates.
+abbrev pub longImmediates : List Row
+longImmediates =
     other "LRLK" "1101 0RRR" "0000 0000" ∷
     other "LALK" "1101 SSSS" "0000 0001" ∷
     other "ADLK" "1101 SSSS" "0000 0010" ∷
@@ -179,19 +189,19 @@ longOther =
     other "XORK" "1101 SSSS" "0000 0110" ∷
     []
 
--- The pages whose words a page of the base has too. Document 01: ZAC is LACK 0, NOP and LARP are MAR.
-abbrev pub sharedOther : List Row
-sharedOther =
+-- Pages whose words a page of the base has too. Document 01: ZAC is LACK 0, NOP and LARP are MAR.
+abbrev pub sharedPages : List Row
+sharedPages =
     other "ZAC" "1100 1010" "0000 0000" ∷
     other "NOP" "0101 0101" "0000 0000" ∷
     other "LARP" "0101 0101" "1000 1RRR" ∷
     []
 
 abbrev pub basePages : List Row
-basePages = addressedBase ++ (branchBase ++ (constantBase ++ controlBase))
+basePages = accumulatorPages ++ (multiplierPages ++ (auxiliaryPages ++ (branchPages ++ (transferPages ++ modePages))))
 
 abbrev pub otherPages : List Row
-otherPages = addressedOther ++ (branchOther ++ (controlOther ++ (longOther ++ sharedOther)))
+otherPages = otherAddressed ++ (otherBranches ++ (otherControls ++ (longImmediates ++ sharedPages)))
 
 -- All of them. A word that two pages have is the base instruction (document 01): its page stands first.
 abbrev pub pages : List Row
