@@ -218,3 +218,7 @@ meaningAt p w = meaningIn pages p w
 pub decode-by-place : (w : ℕ) → w < 65536 → decodeOf w ≡ meaningAt (placeOfKind (kindOf (w / 256)) (w % 256)) w
 unfolding decodeOf meaningAt
 decode-by-place w h = first-place pages w ∙ ap (λ (p : ℕ). meaningIn pages p w) (place-of-kind w h)
+
+pub page-means : (p w : ℕ) (d : Decoded) → d ≡ meaningIn pages p w → d ≡ meaningAt p w
+unfolding meaningAt
+page-means p w d e = e

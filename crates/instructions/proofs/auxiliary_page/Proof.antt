@@ -1,4 +1,4 @@
-use Rattle.instructions.specs.Places.{meaningAt}
+use Rattle.instructions.specs.Places.{page-means}
 use Rattle.instructions.proofs.LastKey.{last-key}
 use native.Mathlib.Nat.{div-one}
 use borrow.Author.Needs.{needs}
@@ -30,36 +30,28 @@ cast-t21 : tie.Need-cast-t21
 cast-t21 c = search needs
 
 returns : tie.Need-returns
-unfolding meaningAt
-returns c = rw (c .match .keys1, ← c .before .address-of .ensures)
+returns c = rw (c .match .keys1) (page-means _ _ _ (rw (← c .before .address-of .ensures)))
 
 returns-2 : tie.Need-returns-2
-unfolding meaningAt
-returns-2 c = rw (c .match .keys2, ← c .before .address-of .ensures)
+returns-2 c = rw (c .match .keys2) (page-means _ _ _ (rw (← c .before .address-of .ensures)))
 
 returns-3 : tie.Need-returns-3
-unfolding meaningAt
-returns-3 c = rw (c .match .keys3, ← c .before .address-of .ensures)
+returns-3 c = rw (c .match .keys3) (page-means _ _ _ (rw (← c .before .address-of .ensures)))
 
 returns-4 : tie.Need-returns-4
-unfolding meaningAt
-returns-4 c = rw (c .match .keys4, ← c .before .address-of .ensures)
+returns-4 c = rw (c .match .keys4) (page-means _ _ _ (rw (← c .before .address-of .ensures)))
 
 returns-5 : tie.Need-returns-5
-unfolding meaningAt
-returns-5 c = rw (c .match .keys5, div-one (c .before .before .args .w))
+returns-5 c = rw (c .match .keys5) (page-means _ _ _ (rw (div-one (c .before .before .args .w))))
 
 returns-6 : tie.Need-returns-6
-unfolding meaningAt
-returns-6 c = rw (c .match .keys6, div-one (c .before .before .args .w))
+returns-6 c = rw (c .match .keys6) (page-means _ _ _ (rw (div-one (c .before .before .args .w))))
 
 returns-7 : tie.Need-returns-7
-unfolding meaningAt
-returns-7 c = rw (c .match .keys7, div-one (c .before .before .args .w))
+returns-7 c = rw (c .match .keys7) (page-means _ _ _ (rw (div-one (c .before .before .args .w))))
 
 returns-8 : tie.Need-returns-8
-unfolding meaningAt
-returns-8 c = rw (last-key 42 7 (c .before .before .args .page) (c .match .rest) (search needs) (search needs), div-one (c .before .before .args .w))
+returns-8 c = rw (last-key 42 7 (c .before .before .args .page) (c .match .rest) (search needs) (search needs)) (page-means _ _ _ (rw (div-one (c .before .before .args .w))))
 
 pub auxiliary-page-spec : {M : Type 1} → statement M
 auxiliary-page-spec =

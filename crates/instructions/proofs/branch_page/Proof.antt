@@ -1,4 +1,5 @@
-use Rattle.instructions.specs.Places.{meaningAt}
+use mathlib.Core.Path.{refl}
+use Rattle.instructions.specs.Places.{page-means}
 use Rattle.instructions.proofs.LastKey.{last-key}
 use borrow.Author.Needs.{needs}
 use Rattle.instructions.proofs.branch_page.Statement.{statement}
@@ -11,52 +12,40 @@ indirect-of-requires : tie.Need-indirect-of-requires
 indirect-of-requires c κs = search needs
 
 returns : tie.Need-returns
-unfolding meaningAt
-returns c = rw (c .match .keys1, ← c .before .indirect-of .ensures)
+returns c = rw (c .match .keys1) (page-means _ _ _ (rw (← c .before .indirect-of .ensures)))
 
 returns-2 : tie.Need-returns-2
-unfolding meaningAt
-returns-2 c = rw (c .match .keys2, ← c .before .indirect-of .ensures)
+returns-2 c = rw (c .match .keys2) (page-means _ _ _ (rw (← c .before .indirect-of .ensures)))
 
 returns-3 : tie.Need-returns-3
-unfolding meaningAt
-returns-3 c = rw (c .match .keys3, ← c .before .indirect-of .ensures)
+returns-3 c = rw (c .match .keys3) (page-means _ _ _ (rw (← c .before .indirect-of .ensures)))
 
 returns-4 : tie.Need-returns-4
-unfolding meaningAt
-returns-4 c = rw (c .match .keys4, ← c .before .indirect-of .ensures)
+returns-4 c = rw (c .match .keys4) (page-means _ _ _ (rw (← c .before .indirect-of .ensures)))
 
 returns-5 : tie.Need-returns-5
-unfolding meaningAt
-returns-5 c = rw (c .match .keys5, ← c .before .indirect-of .ensures)
+returns-5 c = rw (c .match .keys5) (page-means _ _ _ (rw (← c .before .indirect-of .ensures)))
 
 returns-6 : tie.Need-returns-6
-unfolding meaningAt
-returns-6 c = rw (c .match .keys6, ← c .before .indirect-of .ensures)
+returns-6 c = rw (c .match .keys6) (page-means _ _ _ (rw (← c .before .indirect-of .ensures)))
 
 returns-7 : tie.Need-returns-7
-unfolding meaningAt
-returns-7 c = rw (c .match .keys7, ← c .before .indirect-of .ensures)
+returns-7 c = rw (c .match .keys7) (page-means _ _ _ (rw (← c .before .indirect-of .ensures)))
 
 returns-8 : tie.Need-returns-8
-unfolding meaningAt
-returns-8 c = rw (c .match .keys8, ← c .before .indirect-of .ensures)
+returns-8 c = rw (c .match .keys8) (page-means _ _ _ (rw (← c .before .indirect-of .ensures)))
 
 returns-9 : tie.Need-returns-9
-unfolding meaningAt
-returns-9 c = rw (c .match .keys9, ← c .before .indirect-of .ensures)
+returns-9 c = rw (c .match .keys9) (page-means _ _ _ (rw (← c .before .indirect-of .ensures)))
 
 returns-10 : tie.Need-returns-10
-unfolding meaningAt
-returns-10 c = rw (c .match .keys10, ← c .before .indirect-of .ensures)
+returns-10 c = rw (c .match .keys10) (page-means _ _ _ (rw (← c .before .indirect-of .ensures)))
 
 returns-11 : tie.Need-returns-11
-unfolding meaningAt
-returns-11 c = rw (c .match .keys11, ← c .before .indirect-of .ensures)
+returns-11 c = rw (c .match .keys11) (page-means _ _ _ (rw (← c .before .indirect-of .ensures)))
 
 returns-12 : tie.Need-returns-12
-unfolding meaningAt
-returns-12 c = rw (last-key 50 11 (c .before .before .args .page) (c .match .rest) (search needs) (search needs))
+returns-12 c = rw (last-key 50 11 (c .before .before .args .page) (c .match .rest) (search needs) (search needs)) (page-means _ _ _ refl)
 
 pub branch-page-spec : {M : Type 1} → statement M
 branch-page-spec =

@@ -1,4 +1,4 @@
-use Rattle.instructions.specs.Places.{meaningAt}
+use Rattle.instructions.specs.Places.{page-means}
 use Rattle.instructions.proofs.LastKey.{last-key}
 use borrow.Author.Needs.{needs}
 use Rattle.instructions.proofs.transfer_page.Statement.{statement}
@@ -17,16 +17,13 @@ cast-t12 : tie.Need-cast-t12
 cast-t12 c = search needs
 
 returns : tie.Need-returns
-unfolding meaningAt
-returns c = rw (c .match .keys1, ← c .before .address-of .ensures)
+returns c = rw (c .match .keys1) (page-means _ _ _ (rw (← c .before .address-of .ensures)))
 
 returns-2 : tie.Need-returns-2
-unfolding meaningAt
-returns-2 c = rw (c .match .keys2, ← c .before .address-of .ensures)
+returns-2 c = rw (c .match .keys2) (page-means _ _ _ (rw (← c .before .address-of .ensures)))
 
 returns-3 : tie.Need-returns-3
-unfolding meaningAt
-returns-3 c = rw (last-key 62 2 (c .before .before .args .page) (c .match .rest) (search needs) (search needs), ← c .before .address-of .ensures)
+returns-3 c = rw (last-key 62 2 (c .before .before .args .page) (c .match .rest) (search needs) (search needs)) (page-means _ _ _ (rw (← c .before .address-of .ensures)))
 
 pub transfer-page-spec : {M : Type 1} → statement M
 transfer-page-spec =
