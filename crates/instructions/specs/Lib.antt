@@ -1,0 +1,7 @@
+pub mod Encoding
+pub mod Pages
+pub mod Decode
+pub mod Every
+pub mod Places
+pub mod Groups
+pub mod Kinds

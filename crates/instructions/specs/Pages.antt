@@ -1,0 +1,208 @@
+-- The 133 pages of section 4.3, one row for each: the bits as the page (or Table 4-4) prints them, and what the page makes of them.
+use mathlib.Core.List.{List, [], _∷_, _++_}
+use Rattle.instructions.specs.Encoding.{Row, row, other, addressOf, indirectOf}
+use Rattle.instructions.specs.declared.Accumulator.the-variants.{Add, Sub, Lac, Addh, Adds, Subh, Subs, Subc, Zalh, Zals, And, Or, Xor, Sacl, Sach, Lack, Addk, Subk, Cmpl, Neg, Abs, Sfl, Sfr}
+use Rattle.instructions.specs.declared.Multiplier.the-variants.{Lt, Lta, Ltp, Ltd, Lts, Mpy, Mpya, Mpys, Sqra, Sqrs, Mac, Macd, Spl, Sph, Mpyk, Pac, Apac, Spac, Spm}
+use Rattle.instructions.specs.declared.Auxiliary.the-variants.{Lar, Sar, Mar, Ldp, Lark, Adrk, Sbrk, Ldpk}
+use Rattle.instructions.specs.declared.Branches.the-variants.{B, Banz, Bz, Bnz, Bgz, Bgez, Blz, Blez, Bv, Bnv, Call, Ret}
+use Rattle.instructions.specs.declared.Transfers.the-variants.{Dmov, In, Out}
+use Rattle.instructions.specs.declared.Modes.the-variants.{Rpt, Rptk, Sovm, Rovm, Ssxm, Rsxm, Cnfd, Cnfp, Push, Pop}
+use Rattle.instructions.specs.Encoding.{accumulator, multiplier, auxiliary, branches, transfers, modes}
+
+-- The base: the accumulator.
+abbrev pub accumulatorPages : List Row
+accumulatorPages =
+    row "ADD" "0000 SSSS" "IDDD DDDD" (λ f low. accumulator (Add (f "S") (addressOf low))) ∷
+    row "SUB" "0001 SSSS" "IDDD DDDD" (λ f low. accumulator (Sub (f "S") (addressOf low))) ∷
+    row "LAC" "0010 SSSS" "IDDD DDDD" (λ f low. accumulator (Lac (f "S") (addressOf low))) ∷
+    row "ADDH" "0100 1000" "IDDD DDDD" (λ f low. accumulator (Addh (addressOf low))) ∷
+    row "ADDS" "0100 1001" "IDDD DDDD" (λ f low. accumulator (Adds (addressOf low))) ∷
+    row "SUBH" "0100 0100" "IDDD DDDD" (λ f low. accumulator (Subh (addressOf low))) ∷
+    row "SUBS" "0100 0101" "IDDD DDDD" (λ f low. accumulator (Subs (addressOf low))) ∷
+    row "SUBC" "0100 0111" "IDDD DDDD" (λ f low. accumulator (Subc (addressOf low))) ∷
+    row "ZALH" "0100 0000" "IDDD DDDD" (λ f low. accumulator (Zalh (addressOf low))) ∷
+    row "ZALS" "0100 0001" "IDDD DDDD" (λ f low. accumulator (Zals (addressOf low))) ∷
+    row "AND" "0100 1110" "IDDD DDDD" (λ f low. accumulator (And (addressOf low))) ∷
+    row "OR" "0100 1101" "IDDD DDDD" (λ f low. accumulator (Or (addressOf low))) ∷
+    row "XOR" "0100 1100" "IDDD DDDD" (λ f low. accumulator (Xor (addressOf low))) ∷
+    row "SACL" "0110 0XXX" "IDDD DDDD" (λ f low. accumulator (Sacl (f "X") (addressOf low))) ∷
+    row "SACH" "0110 1XXX" "IDDD DDDD" (λ f low. accumulator (Sach (f "X") (addressOf low))) ∷
+    row "LACK" "1100 1010" "KKKK KKKK" (λ f low. accumulator (Lack (f "K"))) ∷
+    row "ADDK" "1100 1100" "KKKK KKKK" (λ f low. accumulator (Addk (f "K"))) ∷
+    row "SUBK" "1100 1101" "KKKK KKKK" (λ f low. accumulator (Subk (f "K"))) ∷
+    row "CMPL" "1100 1110" "0010 0111" (λ f low. accumulator Cmpl) ∷
+    row "NEG" "1100 1110" "0010 0011" (λ f low. accumulator Neg) ∷
+    row "ABS" "1100 1110" "0001 1011" (λ f low. accumulator Abs) ∷
+    row "SFL" "1100 1110" "0001 1000" (λ f low. accumulator Sfl) ∷
+    row "SFR" "1100 1110" "0001 1001" (λ f low. accumulator Sfr) ∷
+    []
+
+-- The base: T, P and multiplication.
+abbrev pub multiplierPages : List Row
+multiplierPages =
+    row "LT" "0011 1100" "IDDD DDDD" (λ f low. multiplier (Lt (addressOf low))) ∷
+    row "LTA" "0011 1101" "IDDD DDDD" (λ f low. multiplier (Lta (addressOf low))) ∷
+    row "LTP" "0011 1110" "IDDD DDDD" (λ f low. multiplier (Ltp (addressOf low))) ∷
+    row "LTD" "0011 1111" "IDDD DDDD" (λ f low. multiplier (Ltd (addressOf low))) ∷
+    row "LTS" "0101 1011" "IDDD DDDD" (λ f low. multiplier (Lts (addressOf low))) ∷
+    row "MPY" "0011 1000" "IDDD DDDD" (λ f low. multiplier (Mpy (addressOf low))) ∷
+    row "MPYA" "0011 1010" "IDDD DDDD" (λ f low. multiplier (Mpya (addressOf low))) ∷
+    row "MPYS" "0011 1011" "IDDD DDDD" (λ f low. multiplier (Mpys (addressOf low))) ∷
+    row "SQRA" "0011 1001" "IDDD DDDD" (λ f low. multiplier (Sqra (addressOf low))) ∷
+    row "SQRS" "0101 1010" "IDDD DDDD" (λ f low. multiplier (Sqrs (addressOf low))) ∷
+    row "MAC" "0101 1101" "IDDD DDDD" (λ f low. multiplier (Mac (addressOf low))) ∷
+    row "MACD" "0101 1100" "IDDD DDDD" (λ f low. multiplier (Macd (addressOf low))) ∷
+    row "SPL" "0111 1100" "IDDD DDDD" (λ f low. multiplier (Spl (addressOf low))) ∷
+    row "SPH" "0111 1101" "IDDD DDDD" (λ f low. multiplier (Sph (addressOf low))) ∷
+    row "MPYK" "101K KKKK" "KKKK KKKK" (λ f low. multiplier (Mpyk (f "K"))) ∷
+    row "PAC" "1100 1110" "0001 0100" (λ f low. multiplier Pac) ∷
+    row "APAC" "1100 1110" "0001 0101" (λ f low. multiplier Apac) ∷
+    row "SPAC" "1100 1110" "0001 0110" (λ f low. multiplier Spac) ∷
+    row "SPM" "1100 1110" "0000 10KK" (λ f low. multiplier (Spm (f "K"))) ∷
+    []
+
+-- The base: auxiliary registers and the data page.
+abbrev pub auxiliaryPages : List Row
+auxiliaryPages =
+    row "LAR" "0011 0RRR" "IDDD DDDD" (λ f low. auxiliary (Lar (f "R") (addressOf low))) ∷
+    row "SAR" "0111 0RRR" "IDDD DDDD" (λ f low. auxiliary (Sar (f "R") (addressOf low))) ∷
+    row "MAR" "0101 0101" "IDDD DDDD" (λ f low. auxiliary (Mar (addressOf low))) ∷
+    row "LDP" "0101 0010" "IDDD DDDD" (λ f low. auxiliary (Ldp (addressOf low))) ∷
+    row "LARK" "1100 0RRR" "KKKK KKKK" (λ f low. auxiliary (Lark (f "R") (f "K"))) ∷
+    row "ADRK" "0111 1110" "KKKK KKKK" (λ f low. auxiliary (Adrk (f "K"))) ∷
+    row "SBRK" "0111 1111" "KKKK KKKK" (λ f low. auxiliary (Sbrk (f "K"))) ∷
+    row "LDPK" "1100 100K" "KKKK KKKK" (λ f low. auxiliary (Ldpk (f "K"))) ∷
+    []
+
+-- The base: branches, CALL and RET. BZ is lost: Table 4-4 (ruling R6).
+abbrev pub branchPages : List Row
+branchPages =
+    row "B" "1111 1111" "1DDD DDDD" (λ f low. branches (B (indirectOf low))) ∷
+    row "BANZ" "1111 1011" "1DDD DDDD" (λ f low. branches (Banz (indirectOf low))) ∷
+    row "BZ" "1111 0110" "1DDD DDDD" (λ f low. branches (Bz (indirectOf low))) ∷
+    row "BNZ" "1111 0101" "1DDD DDDD" (λ f low. branches (Bnz (indirectOf low))) ∷
+    row "BGZ" "1111 0001" "1DDD DDDD" (λ f low. branches (Bgz (indirectOf low))) ∷
+    row "BGEZ" "1111 0100" "1DDD DDDD" (λ f low. branches (Bgez (indirectOf low))) ∷
+    row "BLZ" "1111 0011" "1DDD DDDD" (λ f low. branches (Blz (indirectOf low))) ∷
+    row "BLEZ" "1111 0010" "1DDD DDDD" (λ f low. branches (Blez (indirectOf low))) ∷
+    row "BV" "1111 0000" "1DDD DDDD" (λ f low. branches (Bv (indirectOf low))) ∷
+    row "BNV" "1111 0111" "1DDD DDDD" (λ f low. branches (Bnv (indirectOf low))) ∷
+    row "CALL" "1111 1110" "1DDD DDDD" (λ f low. branches (Call (indirectOf low))) ∷
+    row "RET" "1100 1110" "0010 0110" (λ f low. branches Ret) ∷
+    []
+
+-- The base: the data move and the ports.
+abbrev pub transferPages : List Row
+transferPages =
+    row "DMOV" "0101 0110" "IDDD DDDD" (λ f low. transfers (Dmov (addressOf low))) ∷
+    row "IN" "1000 AAAA" "IDDD DDDD" (λ f low. transfers (In (f "A") (addressOf low))) ∷
+    row "OUT" "1110 AAAA" "IDDD DDDD" (λ f low. transfers (Out (f "A") (addressOf low))) ∷
+    []
+
+-- The base: modes, repeats and the stack. ROVM is lost: Table 4-4 (ruling R6).
+abbrev pub modePages : List Row
+modePages =
+    row "RPT" "0100 1011" "IDDD DDDD" (λ f low. modes (Rpt (addressOf low))) ∷
+    row "RPTK" "1100 1011" "KKKK KKKK" (λ f low. modes (Rptk (f "K"))) ∷
+    row "SOVM" "1100 1110" "0000 0011" (λ f low. modes Sovm) ∷
+    row "ROVM" "1100 1110" "0000 0010" (λ f low. modes Rovm) ∷
+    row "SSXM" "1100 1110" "0000 0111" (λ f low. modes Ssxm) ∷
+    row "RSXM" "1100 1110" "0000 0110" (λ f low. modes Rsxm) ∷
+    row "CNFD" "1100 1110" "0000 0100" (λ f low. modes Cnfd) ∷
+    row "CNFP" "1100 1110" "0000 0101" (λ f low. modes Cnfp) ∷
+    row "PUSH" "1100 1110" "0001 1100" (λ f low. modes Push) ∷
+    row "POP" "1100 1110" "0001 1101" (λ f low. modes Pop) ∷
+    []
+
+-- Not in the base: pages with direct and indirect addressing.
+abbrev pub otherAddressed : List Row
+otherAddressed =
+    other "ADDC" "0100 0011" "IDDD DDDD" ∷
+    other "ADDT" "0100 1010" "IDDD DDDD" ∷
+    other "LACT" "0100 0010" "IDDD DDDD" ∷
+    other "SUBB" "0100 1111" "IDDD DDDD" ∷
+    other "SUBT" "0100 0110" "IDDD DDDD" ∷
+    other "ZALR" "0111 1011" "IDDD DDDD" ∷
+    other "LPH" "0101 0011" "IDDD DDDD" ∷
+    other "MPYU" "1100 1111" "IDDD DDDD" ∷
+    other "BLKD" "1111 1101" "IDDD DDDD" ∷
+    other "BLKP" "1111 1100" "IDDD DDDD" ∷
+    other "TBLR" "0101 1000" "IDDD DDDD" ∷
+    other "TBLW" "0101 1001" "IDDD DDDD" ∷
+    other "BIT" "1001 BBBB" "IDDD DDDD" ∷
+    other "BITT" "0101 0111" "IDDD DDDD" ∷
+    other "LST" "0101 0000" "IDDD DDDD" ∷
+    other "LST1" "0101 0001" "IDDD DDDD" ∷
+    other "POPD" "0111 1010" "IDDD DDDD" ∷
+    other "PSHD" "0101 0100" "IDDD DDDD" ∷
+    other "SST" "0111 1000" "IDDD DDDD" ∷
+    other "SST1" "0111 1001" "IDDD DDDD" ∷
+    []
+
+-- Not in the base: branches.
+abbrev pub otherBranches : List Row
+otherBranches =
+    other "BBNZ" "1111 1001" "1DDD DDDD" ∷
+    other "BBZ" "1111 1000" "1DDD DDDD" ∷
+    other "BC" "0101 1110" "1DDD DDDD" ∷
+    other "BIOZ" "1111 1010" "1DDD DDDD" ∷
+    other "BNC" "0101 1111" "1DDD DDDD" ∷
+    []
+
+-- Not in the base: pages with the upper byte CEh. SC is lost: Table 4-4 (ruling R6).
+abbrev pub otherControls : List Row
+otherControls =
+    other "BACC" "1100 1110" "0010 0101" ∷
+    other "CALA" "1100 1110" "0010 0100" ∷
+    other "CMPR" "1100 1110" "0101 00KK" ∷
+    other "DINT" "1100 1110" "0000 0001" ∷
+    other "EINT" "1100 1110" "0000 0000" ∷
+    other "FORT" "1100 1110" "0000 111K" ∷
+    other "IDLE" "1100 1110" "0001 1111" ∷
+    other "RC" "1100 1110" "0011 0000" ∷
+    other "RFSM" "1100 1110" "0011 0110" ∷
+    other "RHM" "1100 1110" "0011 1000" ∷
+    other "ROL" "1100 1110" "0011 0100" ∷
+    other "ROR" "1100 1110" "0011 0101" ∷
+    other "RTC" "1100 1110" "0011 0010" ∷
+    other "RTXM" "1100 1110" "0010 0000" ∷
+    other "RXF" "1100 1110" "0000 1100" ∷
+    other "SC" "1100 1110" "0011 0001" ∷
+    other "SFSM" "1100 1110" "0011 0111" ∷
+    other "SHM" "1100 1110" "0011 1001" ∷
+    other "STC" "1100 1110" "0011 0011" ∷
+    other "STXM" "1100 1110" "0010 0001" ∷
+    other "SXF" "1100 1110" "0000 1101" ∷
+    other "TRAP" "1100 1110" "0001 1110" ∷
+    other "NORM" "1100 1110" "1MMM 0010" ∷
+    []
+
+-- Not in the base: the long immediates.
+abbrev pub longImmediates : List Row
+longImmediates =
+    other "LRLK" "1101 0RRR" "0000 0000" ∷
+    other "LALK" "1101 SSSS" "0000 0001" ∷
+    other "ADLK" "1101 SSSS" "0000 0010" ∷
+    other "SBLK" "1101 SSSS" "0000 0011" ∷
+    other "ANDK" "1101 SSSS" "0000 0100" ∷
+    other "ORK" "1101 SSSS" "0000 0101" ∷
+    other "XORK" "1101 SSSS" "0000 0110" ∷
+    []
+
+-- Pages whose words a page of the base has too. Document 01: ZAC is LACK 0, NOP and LARP are MAR.
+abbrev pub sharedPages : List Row
+sharedPages =
+    other "ZAC" "1100 1010" "0000 0000" ∷
+    other "NOP" "0101 0101" "0000 0000" ∷
+    other "LARP" "0101 0101" "1000 1RRR" ∷
+    []
+
+abbrev pub basePages : List Row
+basePages = accumulatorPages ++ (multiplierPages ++ (auxiliaryPages ++ (branchPages ++ (transferPages ++ modePages))))
+
+abbrev pub otherPages : List Row
+otherPages = otherAddressed ++ (otherBranches ++ (otherControls ++ (longImmediates ++ sharedPages)))
+
+-- All of them. A word that two pages have is the base instruction (document 01): its page stands first.
+abbrev pub pages : List Row
+pages = basePages ++ otherPages
