@@ -1,3 +1,4 @@
 pub mod Rows
 pub mod Pass
 pub mod PassLaws
+pub mod StoreLaws

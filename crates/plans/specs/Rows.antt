@@ -12,6 +12,6 @@ abbrev pub row : Answer → Bool → Row
 row answer given = record { answer = answer; given = given }
 
 -- the answer of the first row that holds, and Done where none does
-abbrev pub firstGiven : List Row → Answer
+unfoldable pub firstGiven : List Row → Answer
 firstGiven [] = Done
 firstGiven (r ∷ rows) = cond (r .given) (r .answer) (firstGiven rows)

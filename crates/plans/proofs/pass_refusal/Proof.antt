@@ -1,3 +1,4 @@
+use Rattle.plans.specs.Rows.{firstGiven}
 use Rattle.plans.specs.Pass.{passRefusal, addressAbove, dataAbsent, tableAbsent, outputFull}
 use borrow.Author.Needs.{needs}
 use Rattle.plans.proofs.pass_refusal.Statement.{statement}
@@ -13,18 +14,18 @@ is-wrong-port-requires : tie.Need-is-wrong-port-requires
 is-wrong-port-requires c κs = search needs
 
 returns : tie.Need-returns
-unfolding passRefusal addressAbove dataAbsent tableAbsent outputFull
+unfolding firstGiven passRefusal addressAbove dataAbsent tableAbsent outputFull
 returns c = rw (← c .before .is-wrong-port .ensures, c .if1 .taken)
 
 returns-2 : tie.Need-returns-2
-unfolding passRefusal addressAbove dataAbsent tableAbsent outputFull
+unfolding firstGiven passRefusal addressAbove dataAbsent tableAbsent outputFull
 returns-2 c = rw (← c .before .before .is-wrong-port .ensures, ← c .before .before .before .before .is-accessed .ensures, ← c .before .before .before .address-of .ensures, c .before .if1 .left, c .if2 .taken)
 
 is-present-requires : tie.Need-is-present-requires
 is-present-requires c κs = search needs
 
 returns-3 : tie.Need-returns-3
-unfolding passRefusal addressAbove dataAbsent tableAbsent outputFull
+unfolding firstGiven passRefusal addressAbove dataAbsent tableAbsent outputFull
 returns-3 c = rw (← c .before .before .before .before .is-wrong-port .ensures, ← c .before .before .before .before .before .before .is-accessed .ensures, ← c .before .before .before .before .before .address-of .ensures, ← c .before .is-present .ensures, c .before .before .before .if1 .left, c .before .before .if2 .left, c .if3 .taken)
 
 table-address-requires : tie.Need-table-address-requires
@@ -34,7 +35,7 @@ program-present-requires : tie.Need-program-present-requires
 program-present-requires c κs = search needs
 
 returns-4 : tie.Need-returns-4
-unfolding passRefusal addressAbove dataAbsent tableAbsent outputFull
+unfolding firstGiven passRefusal addressAbove dataAbsent tableAbsent outputFull
 returns-4 c = rw (← c .before .before .before .before .before .before .before .before .is-wrong-port .ensures, ← c .before .before .before .before .before .before .before .before .before .before .is-accessed .ensures, ← c .before .before .before .before .before .before .before .before .before .address-of .ensures, ← c .before .before .before .before .before .is-present .ensures, ← c .before .before .before .table-address .ensures, ← c .before .before .program-present .ensures, c .before .before .before .before .before .before .before .if1 .left, c .before .before .before .before .before .before .if2 .left, c .before .before .before .before .if3 .left, c .if4 .taken)
 
 is-sent-requires : tie.Need-is-sent-requires
@@ -44,11 +45,11 @@ port-spent-requires : tie.Need-port-spent-requires
 port-spent-requires c κs = search needs
 
 returns-5 : tie.Need-returns-5
-unfolding passRefusal addressAbove dataAbsent tableAbsent outputFull
+unfolding firstGiven passRefusal addressAbove dataAbsent tableAbsent outputFull
 returns-5 c = rw (← c .before .before .before .before .before .before .before .before .before .before .before .is-wrong-port .ensures, ← c .before .before .before .before .before .before .before .before .before .before .before .before .before .is-accessed .ensures, ← c .before .before .before .before .before .before .before .before .before .before .before .before .address-of .ensures, ← c .before .before .before .before .before .before .before .before .is-present .ensures, ← c .before .before .before .before .before .before .table-address .ensures, ← c .before .before .before .before .before .program-present .ensures, ← c .before .before .is-sent .ensures, ← c .before .port-spent .ensures, c .before .before .before .before .before .before .before .before .before .before .if1 .left, c .before .before .before .before .before .before .before .before .before .if2 .left, c .before .before .before .before .before .before .before .if3 .left, c .before .before .before .if4 .left, c .if5 .taken)
 
 returns-6 : tie.Need-returns-6
-unfolding passRefusal addressAbove dataAbsent tableAbsent outputFull
+unfolding firstGiven passRefusal addressAbove dataAbsent tableAbsent outputFull
 returns-6 c = rw (← c .before .before .before .before .before .before .before .before .before .before .before .is-wrong-port .ensures, ← c .before .before .before .before .before .before .before .before .before .before .before .before .before .is-accessed .ensures, ← c .before .before .before .before .before .before .before .before .before .before .before .before .address-of .ensures, ← c .before .before .before .before .before .before .before .before .is-present .ensures, ← c .before .before .before .before .before .before .table-address .ensures, ← c .before .before .before .before .before .program-present .ensures, ← c .before .before .is-sent .ensures, ← c .before .port-spent .ensures, c .before .before .before .before .before .before .before .before .before .before .if1 .left, c .before .before .before .before .before .before .before .before .before .if2 .left, c .before .before .before .before .before .before .before .if3 .left, c .before .before .before .if4 .left, c .if5 .left)
 
 pub pass-refusal-spec : {M : Type 1} → statement M

@@ -1,0 +1,26 @@
+use Rattle.emulator.specs.Table.{checksOf}
+use Rattle.plans.specs.Rows.{firstGiven}
+use borrow.Author.Needs.{needs}
+use Rattle.emulator.proofs.check.Statement.{statement}
+use Rattle.emulator.proofs.check.Tie as tie
+
+in-range-requires : tie.Need-in-range-requires
+in-range-requires c κs = search needs
+
+returns : tie.Need-returns
+unfolding checksOf firstGiven
+returns c = rw (← c .before .in-range .ensures, c .if1 .taken)
+
+slices-fit-requires : tie.Need-slices-fit-requires
+slices-fit-requires c κs = search needs
+
+returns-2 : tie.Need-returns-2
+unfolding checksOf firstGiven
+returns-2 c = rw (← c .before .before .before .in-range .ensures, ← c .before .slices-fit .ensures, c .before .before .if1 .left, c .if2 .taken)
+
+returns-3 : tie.Need-returns-3
+unfolding checksOf firstGiven
+returns-3 c = rw (← c .before .before .before .in-range .ensures, ← c .before .slices-fit .ensures, c .before .before .if1 .left, c .if2 .left)
+
+pub check-spec : {M : Type 1} → statement M
+check-spec = tie.close (tie.spec in-range-requires returns slices-fit-requires returns-2 returns-3)

@@ -1,0 +1,5 @@
+pub mod World
+pub mod Table
+pub mod Step
+pub mod Stages
+pub mod StepLaws
