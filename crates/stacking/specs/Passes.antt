@@ -1,0 +1,112 @@
+-- The repeat instruction, the passes and the final product add, step by step.
+use mathlib.Core.Path.{_≡_, refl, sym, _∙_, ap, ap₂, subst}
+use mathlib.Core.Bool.{Bool, true, false, cond}
+use mathlib.Core.List.{List, [], _∷_}
+use Prim.Native.Nat.{ℕ, zero, suc, _+_, _-_, _%_, _^_, _≤_, _<_}
+use native.Mathlib.Omega.{arith}
+use native.Mathlib.Numerals.{unary-clauses}
+use lib.ListN.{length, getD, set}
+use Rattle.words.specs.Registers.{wrappedSum}
+use Rattle.words.specs.Products.{productWord}
+use Rattle.machine.specs.declared.Machine.{Machine}
+use Rattle.answers.specs.Numbers.{isDone}
+use Rattle.instructions.specs.declared.Instruction.{Instruction}
+use Rattle.instructions.specs.declared.Instruction.the-variants as Family
+use Rattle.instructions.specs.declared.Address.{Address}
+use Rattle.instructions.specs.declared.Modes.the-variants.{Rpt, Rptk}
+use Rattle.instructions.specs.declared.Multiplier.the-variants.{Mac, Macd, Apac}
+use Rattle.instructions.specs.declared.Decoded.{Decoded}
+use Rattle.instructions.specs.declared.Decoded.the-variants.{Base, Published, Nothing}
+use Rattle.instructions.specs.Decode.{decodeOf}
+use Rattle.traits.specs.declared.Operand.the-variants.{At}
+use Rattle.traits.specs.Pages.{traitsOf, modesTraits, multiplierTraits}
+use Rattle.passes.specs.declared.Jump.the-variants.{Past}
+use Rattle.passes.specs.Passes.{followed, destination}
+use Rattle.addressing.specs.Addressing.{addressed, addressOf}
+use Rattle.modes.specs.Pages.{RPT, RPTK}
+use Rattle.modes.specs.Rule.{modesRule}
+use Rattle.multiplier.specs.Pages.{APAC, MAC, MACD, tableAddress}
+use Rattle.multiplier.specs.Rule.{multiplierRule}
+use Rattle.rules.specs.Rules.{ruleOf}
+use Rattle.board.specs.Regions.{inRom, inProgramB0, moveAllowed}
+use Rattle.board.specs.Windows.{windowOf, programWord}
+use Rattle.board.specs.WindowLaws.{rom-word, b0-word}
+use Rattle.plans.specs.Pass.{readWord, wordsRead, effectOf, writeOf, passedMachine, passedWrite, performed, dataAfter}
+use Rattle.emulator.specs.World.{World}
+use Rattle.emulator.specs.Table.{decodedAt, secondWord}
+use Rattle.emulator.specs.Step.{stored, stepOf, runOf}
+use Rattle.frames.specs.Frames.{Pair, Accumulation, productAdded, accumulated, passed, Every, Words}
+use Rattle.stacking.specs.Stacking.{pairFor, pairAt, pairsRead, Repeats, by-rptk, by-rpt, Accumulates, by-mac, by-macd, Sized}
+use Rattle.stacking.specs.Passing.{step-does, RunsOn, runs-on, run-ended, Alike, operand-alike, accumulationOf, Follows, followed-follows, again, goes-past, apac-works, mac-works, move-keeps}
+
+-- ---- words of 16 bits
+sized-set : (l : List ℕ) (j word : ℕ) → ((i : ℕ) → getD l i 0 < 2 ^ 16) → word < 2 ^ 16 → (i : ℕ) → getD (set l j word) i 0 < 2 ^ 16
+sized-set [] j word h b i = h i
+sized-set (x ∷ xs) zero word h b zero = b
+sized-set (x ∷ xs) zero word h b (suc i) = h (suc i)
+sized-set (x ∷ xs) (suc j) word h b zero = h zero
+sized-set (x ∷ xs) (suc j) word h b (suc i) = sized-set xs j word (λ k. h (suc k)) b i
+
+pub set-sized : (l : List ℕ) (j word : ℕ) → Sized l → word < 2 ^ 16 → Sized (set l j word)
+set-sized l j word s b = record { bits = sized-set l j word (s .bits) b }
+
+pub program-sized : (cnf x : ℕ) (rom d : List ℕ) → Sized rom → Sized d → programWord cnf x rom d < 2 ^ 16
+unfolding programWord windowOf
+program-sized cnf x rom d r s = by (inRom x) (inProgramB0 cnf x) refl refl
+  where
+    by : (t u : Bool) → inRom x ≡ t → inProgramB0 cnf x ≡ u → programWord cnf x rom d < 2 ^ 16
+    by true u e f = rw (rom-word cnf x rom d e) (r .bits x)
+    by false true e f = rw (b0-word cnf x rom d f) (s .bits (x - 0xFF00 + 0x200))
+    by false false e f = rw (e, f) (omega arith)
+
+-- ---- the repeat instruction
+pub record Began (w v : World) (k : ℕ) : Type 0 where
+  pub accumulation : accumulationOf (v .m) ≡ accumulationOf (w .m)
+  pub ovm : v .m .ovm ≡ w .m .ovm
+  pub pm : v .m .pm ≡ w .m .pm
+  pub cnf : v .m .cnf ≡ w .m .cnf
+  pub rptc : v .m .rptc ≡ k
+  pub pc : v .m .pc ≡ wrappedSum (w .m .pc) 1
+  pub same-data : v .«data» ≡ w .«data»
+
+module _ (rom input : List ℕ) (w : World) where
+  repeats : (r : Instruction) (k : ℕ) → Repeats w r k → Began w (stored (performed r (secondWord r rom (w .«data») (w .m)) rom (w .«data») input (w .m)) w) k
+  unfolding stored performed passedMachine passedWrite effectOf traitsOf modesTraits ruleOf modesRule RPT RPTK followed destination writeOf dataAfter wordsRead readWord accumulationOf
+  repeats _ _ (by-rptk k) =
+      let a = operand-alike (traitsOf (Family.Modes (Rptk k)) .operand) (w .m) in
+      record { accumulation = rw (a .acc, a .p, a .ov); ovm = a .ovm; pm = a .pm; cnf = a .cnf; rptc = refl; pc = rw (a .pc); same-data = refl }
+  repeats _ _ (by-rpt x) =
+      let a = operand-alike (traitsOf (Family.Modes (Rpt x)) .operand) (w .m) in
+      record { accumulation = rw (a .acc, a .p, a .ov); ovm = a .ovm; pm = a .pm; cnf = a .cnf; rptc = refl; pc = rw (a .pc); same-data = refl }
+
+  pub began : (r : Instruction) (k : ℕ) → Repeats w r k → decodedAt rom (w .«data») (w .m) ≡ Base r → isDone (stepOf rom input w .answer) ≡ true → Began w (stepOf rom input w .world) k
+  began r k g is done = rw (step-does rom input w r is done) (repeats r k g)
+
+-- ---- one pass
+pub record Went (rom : List ℕ) (w v : World) (pair : Pair) : Type 0 where
+  pub accumulation : accumulationOf (v .m) ≡ accumulated (w .m .pm) (w .m .ovm) pair (accumulationOf (w .m))
+  pub ovm : v .m .ovm ≡ w .m .ovm
+  pub pm : v .m .pm ≡ w .m .pm
+  pub cnf : v .m .cnf ≡ w .m .cnf
+  pub program : (x : ℕ) → programWord (w .m .cnf) x rom (v .«data») ≡ programWord (w .m .cnf) x rom (w .«data»)
+  pub sized : Sized (w .«data») → Sized (v .«data»)
+  pub repeats-on : (k : ℕ) → w .m .rptc ≡ suc k → (v .m .rptc ≡ k) × (v .m .pc ≡ w .m .pc)
+  pub ends : w .m .rptc ≡ 0 → v .m .pc ≡ wrappedSum (w .m .pc) 2
+
+-- the machine of a pass, whatever it stores
+module _ (rom : List ℕ) (w : World) (n : Machine) (a : Alike (w .m) n) (word table at : ℕ) (d output : List ℕ)
+    (program : (x : ℕ) → programWord (w .m .cnf) x rom d ≡ programWord (w .m .cnf) x rom (w .«data»)) (sized : Sized (w .«data») → Sized d) where
+  went : Went rom w (record { m = followed (MAC word table at n) Past 2 true; «data» = d; output = output }) (record { dataWord = word; programWord = table })
+  unfolding MAC APAC
+  went =
+      let f = followed-follows (MAC word table at n) Past 2 true in
+      record {
+        accumulation = f .accumulation ∙ mac-works (w .m) n a word table at;
+        ovm = f .ovm ∙ a .ovm;
+        pm = f .pm ∙ a .pm;
+        cnf = f .cnf ∙ a .cnf;
+        program = program;
+        sized = sized;
+        repeats-on = λ k e. let g = again (MAC word table at n) 2 k (a .rptc ∙ e) in (g .0, g .1 ∙ a .pc);
+        ends = λ e. goes-past (MAC word table at n) 2 (a .rptc ∙ e) ∙ ap (λ (p : ℕ). wrappedSum p 2) (a .pc);
+      }

@@ -1,0 +1,97 @@
+-- Demand 3, over the emulator's own runs: what is asked of a world in which a stack is started, and the words that its passes read.
+use mathlib.Core.Path.{_≡_}
+use mathlib.Core.Bool.{true}
+use mathlib.Core.List.{List, [], _∷_}
+use mathlib.Core.Logic.{_↔_}
+use Prim.Native.Nat.{ℕ, zero, suc, _+_, _%_, _^_, _≤_, _<_}
+use lib.ListN.{getD}
+use Rattle.words.specs.Word.{signed}
+use Rattle.words.specs.Registers.{wrappedSum}
+use Rattle.machine.specs.declared.Machine.{Machine}
+use Rattle.answers.specs.Numbers.{isDone}
+use Rattle.instructions.specs.declared.Instruction.{Instruction}
+use Rattle.instructions.specs.declared.Instruction.the-variants as Family
+use Rattle.instructions.specs.declared.Address.{Address}
+use Rattle.instructions.specs.declared.Modes.the-variants.{Rpt, Rptk}
+use Rattle.instructions.specs.declared.Multiplier.the-variants.{Mac, Macd, Apac}
+use Rattle.instructions.specs.declared.Decoded.{Decoded}
+use Rattle.instructions.specs.declared.Decoded.the-variants.{Base, Published, Nothing}
+use Rattle.instructions.specs.Decode.{decodeOf}
+use Rattle.traits.specs.declared.Operand.the-variants.{At}
+use Rattle.traits.specs.Pages.{traitsOf}
+use Rattle.addressing.specs.Addressing.{addressOf}
+use Rattle.board.specs.Windows.{programWord}
+use Rattle.plans.specs.Pass.{wordsRead}
+use Rattle.emulator.specs.World.{World, RunOutcome}
+use Rattle.emulator.specs.Table.{decodedAt, secondWord}
+use Rattle.emulator.specs.Step.{stepOf, runOf}
+use Rattle.frames.specs.Frames.{Pair, Near, exactSum, AllLeast}
+
+-- ---- the words that the passes read, taken from the run itself
+
+-- the data word and the program word that the next step reads
+unfoldable pub pairFor : Decoded → List ℕ → List ℕ → World → Pair
+pairFor (Base i) rom input w = record {
+  dataWord = wordsRead (traitsOf i) (secondWord i rom (w .«data») (w .m)) rom (w .«data») input (w .m) .operand;
+  programWord = wordsRead (traitsOf i) (secondWord i rom (w .«data») (w .m)) rom (w .«data») input (w .m) .table;
+}
+pairFor Published rom input w = record { dataWord = 0; programWord = 0 }
+pairFor Nothing rom input w = record { dataWord = 0; programWord = 0 }
+
+unfoldable pub pairAt : List ℕ → List ℕ → World → Pair
+pairAt rom input w = pairFor (decodedAt rom (w .«data») (w .m)) rom input w
+
+-- those of n steps, one after another
+unfoldable pub pairsRead : List ℕ → List ℕ → ℕ → World → List Pair
+pairsRead rom input zero w = []
+pairsRead rom input (suc n) w = pairAt rom input w ∷ pairsRead rom input n (stepOf rom input w .world)
+
+-- ---- what stands at PC
+
+-- the program word at `ahead` words past PC
+unfoldable pub wordAhead : List ℕ → ℕ → World → ℕ
+wordAhead rom ahead w = programWord (w .m .cnf) (wrappedSum (w .m .pc) ahead) rom (w .«data»)
+
+-- "an RPTK or an RPT that gives" a count
+pub data Repeats (w : World) : Instruction → ℕ → Type 0 where
+  by-rptk : (k : ℕ) → Repeats w (Family.Modes (Rptk k)) k
+  by-rpt : (a : Address) → Repeats w (Family.Modes (Rpt a)) (getD (w .«data») (addressOf (At a) (w .m)) 0 % 2 ^ 8)
+
+-- "one MAC or MACD (direct or indirect, any modification)"
+pub data Accumulates : Instruction → Type 0 where
+  by-mac : (a : Address) → Accumulates (Family.Multiplier (Mac a))
+  by-macd : (a : Address) → Accumulates (Family.Multiplier (Macd a))
+
+-- every word of a list has 16 bits, as those of a lent slice have
+pub record Sized (words : List ℕ) : Type 0 where
+  pub bits : (i : ℕ) → getD words i 0 < 2 ^ 16
+
+-- "From ACC, P and OV zero, product shift 3, no repeat pending": the count k is n - 1; the run of n + 2 steps is not refused
+pub record Stacks (rom input : List ℕ) (w : World) (k : ℕ) : Type 0 where
+  pub acc-zero : w .m .acc ≡ 0
+  pub p-zero : w .m .p ≡ 0
+  pub ov-zero : w .m .ov ≡ 0
+  pub shift-three : w .m .pm ≡ 3
+  pub no-repeat : w .m .rptc ≡ 0
+  pub repeat : Instruction
+  pub repeat-first : decodedAt rom (w .«data») (w .m) ≡ Base repeat
+  pub repeat-gives : Repeats w repeat k
+  pub accumulate : Instruction
+  pub accumulate-second : decodeOf (wordAhead rom 1 w) ≡ Base accumulate
+  pub accumulates : Accumulates accumulate
+  pub apac-third : decodeOf (wordAhead rom 3 w) ≡ Base (Family.Multiplier Apac)
+  pub not-refused : isDone (runOf rom input (k + 3) w .answer) ≡ true
+  pub rom-sized : Sized rom
+  pub data-sized : Sized (w .«data»)
+
+-- the world that the run leaves, and the words that its n passes read: those of the steps after the first
+unfoldable pub lastWorld : List ℕ → List ℕ → World → ℕ → World
+lastWorld rom input w k = runOf rom input (k + 3) w .world
+
+unfoldable pub words : List ℕ → List ℕ → World → ℕ → List Pair
+words rom input w k = pairsRead rom input (suc k) (stepOf rom input w .world)
+
+-- "OV stays 0 and 0 <= S - 64 A <= 63 n"
+pub record Holds (rom input : List ℕ) (w : World) (k : ℕ) : Type 0 where
+  pub ov : lastWorld rom input w k .m .ov ≡ 0
+  pub near : Near (suc k) (exactSum (words rom input w k)) (signed 32 (lastWorld rom input w k .m .acc))

@@ -1,0 +1,1 @@
+// The figure on the camera's label, and what it promises.
