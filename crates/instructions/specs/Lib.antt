@@ -5,3 +5,4 @@ pub mod Every
 pub mod Places
 pub mod Groups
 pub mod Kinds
+pub mod Apart

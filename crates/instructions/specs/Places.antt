@@ -27,7 +27,7 @@ meaningIn [] p w = Nothing
 meaningIn (r ∷ rs) zero w = means r w
 meaningIn (r ∷ rs) (suc p) w = meaningIn rs p w
 
-first-place : (rs : List Row) (w : ℕ) → first rs w ≡ meaningIn rs (placeIn rs w) w
+pub first-place : (rs : List Row) (w : ℕ) → first rs w ≡ meaningIn rs (placeIn rs w) w
 first-place [] w = refl
 first-place (r ∷ rs) w = go (has r w) (first-place rs w)
   where
