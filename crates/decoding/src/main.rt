@@ -55,7 +55,7 @@ impl Counts {
 }
 
 fn decoded(upper: u16, low: u16) -> Decoded {
-    instructions::decode(upper % 256 * 256 + low % 256)
+    decoder::decode(upper % 256 * 256 + low % 256)
 }
 
 fn counts_of(upper: u16) -> Counts {
