@@ -1,21 +1,17 @@
--- The places of the pages of CEh and of the long immediates by their low bytes, and the places past the base.
+-- The places of the pages of CEh and of the long immediates by their low bytes.
 use mathlib.Core.Path.{_≡_, refl}
 use mathlib.Core.Bool.{Bool, true, false, not}
 use mathlib.Core.List.{List, [], _∷_}
 use Prim.Native.Nat.{ℕ, zero, suc, _+_, _-_, _*_, _/_, _%_, _<_, _≤_}
 use Prim.Native.String.{String}
-use native.Mathlib.Nat.{le-of-suc-le-suc, not-suc-le-zero}
 use native.Mathlib.Omega.{arith}
 use lib.Dec.{T, eqb, ltb, leb, eqb→eq}
-use lib.ListN.{length, getD}
-use borrow.Author.Tests.{lt-ltb, le-leb, ne-eqb}
+use lib.ListN.{getD}
+use borrow.Author.Tests.{ne-eqb}
 use Rattle.instructions.specs.Every.{all, all-at}
-use Rattle.instructions.specs.Encoding.{Row, pick, both, lowFits}
-use Rattle.instructions.specs.Pages.{pages}
-use Rattle.instructions.specs.Places.{lowerIn, pagesOf, meaningIn, meaningAt}
+use Rattle.instructions.specs.Encoding.{pick, both, lowFits}
+use Rattle.instructions.specs.Places.{lowerIn, pagesOf}
 use Rattle.decoder.specs.Kinds.{groupOf}
-use Rattle.instructions.specs.declared.Decoded.{Decoded}
-use Rattle.instructions.specs.declared.Decoded.the-variants.{Base, Published, Nothing}
 
 -- CEh: a list for the low bytes below 64, CMPR and NORM
 unfoldable pub controlPlace : List ℕ → ℕ → ℕ
@@ -55,31 +51,3 @@ long-place-1 low h = same-at (longPlace 1) (groupOf 202) tt low h
 pub group-else : (k : ℕ) → (k ≡ 200 → ⊥) → (k ≡ 201 → ⊥) → groupOf k ≡ groupOf 202
 unfolding groupOf
 group-else k a b = rw (ne-eqb k 200 a, ne-eqb k 201 b)
-
-published : Decoded → Bool
-published (Base i) = false
-published Published = true
-published Nothing = false
-
-published-is : (d : Decoded) → T (published d) → d ≡ Published
-unfolding published
-published-is (Base i) t = absurd t
-published-is Published t = refl
-published-is Nothing t = absurd t
-
-pub past-base : (p w : ℕ) → 75 ≤ p → p < 133 → meaningAt p w ≡ Published
-unfolding meaningAt published
-past-base p w lo hi =
-    let b : both (leb 75 p) (ltb p 133) ≡ true = rw (le-leb 75 p lo, lt-ltb p 133 hi) in
-    published-is (meaningIn pages p w)
-    (rw b at
-    (all-at (λ q. pick (both (leb 75 q) (ltb q 133)) (published (meaningIn pages q w)) true) 8 0 p tt (omega arith) (omega arith)))
-
-past-end : (rs : List Row) (p w : ℕ) → length rs ≤ p → meaningIn rs p w ≡ Nothing
-past-end [] p w h = refl
-past-end (r ∷ rs) zero w h = absurd (not-suc-le-zero h)
-past-end (r ∷ rs) (suc p) w h = past-end rs p w (le-of-suc-le-suc h)
-
-pub past-pages : (p w : ℕ) → 133 ≤ p → meaningAt p w ≡ Nothing
-unfolding meaningAt
-past-pages p w h = past-end pages p w h

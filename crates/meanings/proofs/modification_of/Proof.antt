@@ -1,9 +1,9 @@
 use Rattle.instructions.specs.Encoding.{modificationOf, modifications}
 use Rattle.instructions.specs.declared.Modification.the-variants.{None}
-use Rattle.decoder.proofs.Rest.{find-rest}
+use Rattle.meanings.proofs.Rest.{find-rest}
 use mathlib.Core.Path.{sym}
-use Rattle.decoder.proofs.modification_of.Statement.{statement}
-use Rattle.decoder.proofs.modification_of.Tie as tie
+use Rattle.meanings.proofs.modification_of.Statement.{statement}
+use Rattle.meanings.proofs.modification_of.Tie as tie
 
 returns : tie.Need-returns
 unfolding modificationOf

@@ -1,7 +1,7 @@
 use Rattle.instructions.specs.Encoding.{indirectOf}
 use borrow.Author.Needs.{needs}
-use Rattle.decoder.proofs.indirect_of.Statement.{statement}
-use Rattle.decoder.proofs.indirect_of.Tie as tie
+use Rattle.meanings.proofs.indirect_of.Statement.{statement}
+use Rattle.meanings.proofs.indirect_of.Tie as tie
 
 modification-of-requires : tie.Need-modification-of-requires
 modification-of-requires c κs = search needs

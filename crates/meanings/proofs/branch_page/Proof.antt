@@ -1,9 +1,9 @@
 use mathlib.Core.Path.{refl}
 use Rattle.instructions.specs.Places.{page-means}
-use Rattle.decoder.proofs.LastKey.{last-key}
+use Rattle.meanings.proofs.LastKey.{last-key}
 use borrow.Author.Needs.{needs}
-use Rattle.decoder.proofs.branch_page.Statement.{statement}
-use Rattle.decoder.proofs.branch_page.Tie as tie
+use Rattle.meanings.proofs.branch_page.Statement.{statement}
+use Rattle.meanings.proofs.branch_page.Tie as tie
 
 cast-indirect-of : tie.Need-cast-indirect-of
 cast-indirect-of c = search needs

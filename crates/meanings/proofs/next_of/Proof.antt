@@ -1,7 +1,7 @@
 use borrow.Author.Tests.{lt-ltb, le-ltb, eq-eqb, ne-eqb}
 use Rattle.instructions.specs.Encoding.{nextOf}
-use Rattle.decoder.proofs.next_of.Statement.{statement}
-use Rattle.decoder.proofs.next_of.Tie as tie
+use Rattle.meanings.proofs.next_of.Statement.{statement}
+use Rattle.meanings.proofs.next_of.Tie as tie
 
 returns : tie.Need-returns
 unfolding nextOf

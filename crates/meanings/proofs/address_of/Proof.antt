@@ -1,8 +1,8 @@
 use borrow.Author.Tests.{lt-ltb, le-ltb, eq-eqb, ne-eqb}
 use Rattle.instructions.specs.Encoding.{addressOf}
 use borrow.Author.Needs.{needs}
-use Rattle.decoder.proofs.address_of.Statement.{statement}
-use Rattle.decoder.proofs.address_of.Tie as tie
+use Rattle.meanings.proofs.address_of.Statement.{statement}
+use Rattle.meanings.proofs.address_of.Tie as tie
 
 returns : tie.Need-returns
 unfolding addressOf

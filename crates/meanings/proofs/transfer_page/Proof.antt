@@ -1,8 +1,8 @@
 use Rattle.instructions.specs.Places.{page-means}
-use Rattle.decoder.proofs.LastKey.{last-key}
+use Rattle.meanings.proofs.LastKey.{last-key}
 use borrow.Author.Needs.{needs}
-use Rattle.decoder.proofs.transfer_page.Statement.{statement}
-use Rattle.decoder.proofs.transfer_page.Tie as tie
+use Rattle.meanings.proofs.transfer_page.Statement.{statement}
+use Rattle.meanings.proofs.transfer_page.Tie as tie
 
 cast-address-of : tie.Need-cast-address-of
 cast-address-of c = search needs

@@ -1,10 +1,10 @@
 use mathlib.Core.Path.{refl}
 use Rattle.instructions.specs.Places.{page-means}
-use Rattle.decoder.proofs.LastKey.{last-key}
+use Rattle.meanings.proofs.LastKey.{last-key}
 use native.Mathlib.Nat.{div-one}
 use borrow.Author.Needs.{needs}
-use Rattle.decoder.proofs.accumulator_page.Statement.{statement}
-use Rattle.decoder.proofs.accumulator_page.Tie as tie
+use Rattle.meanings.proofs.accumulator_page.Statement.{statement}
+use Rattle.meanings.proofs.accumulator_page.Tie as tie
 
 cast-address-of : tie.Need-cast-address-of
 cast-address-of c = search needs

@@ -1,8 +1,8 @@
 use mathlib.Core.Path.{sym}
-use Rattle.decoder.specs.Groups.{past-base, past-pages}
+use Rattle.meanings.specs.Past.{past-base, past-pages}
 use borrow.Author.Needs.{needs}
-use Rattle.decoder.proofs.meaning.Statement.{statement}
-use Rattle.decoder.proofs.meaning.Tie as tie
+use Rattle.meanings.proofs.meaning.Statement.{statement}
+use Rattle.meanings.proofs.meaning.Tie as tie
 
 base-of-requires : tie.Need-base-of-requires
 base-of-requires c κs = search needs
