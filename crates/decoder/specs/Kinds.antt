@@ -2,12 +2,12 @@
 use mathlib.Core.Path.{_≡_, refl, ap, sym, _∙_}
 use mathlib.Core.Bool.{Bool, true, false}
 use mathlib.Core.List.{List, [], _∷_}
-use Prim.Native.Nat.{ℕ, suc, _+_, _/_, _%_, _<_}
+use Prim.Native.Nat.{ℕ, _/_, _%_, _<_}
 use Prim.Native.String.{String}
 use native.Mathlib.Nat.{zero-add}
 use native.Mathlib.Omega.{arith}
 use lib.Dec.{T, eqb, ltb, leb, eqb→eq}
-use lib.ListN.{length, getD}
+use lib.ListN.{getD}
 use lib.Text.{eqt, eqt→eq}
 use Rattle.instructions.specs.Every.{both-left, both-right, all, all-at}
 use Rattle.instructions.specs.Encoding.{pick, both, find, lowFits}

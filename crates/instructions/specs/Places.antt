@@ -1,17 +1,13 @@
 -- The place of a word's page in the list of pages, found by the upper byte first.
-use mathlib.Core.Path.{_≡_, refl, ap, subst, sym, _∙_}
-use mathlib.Core.Bool.{Bool, true, false, not}
+use mathlib.Core.Path.{_≡_, refl}
+use mathlib.Core.Bool.{Bool, true, false}
 use mathlib.Core.List.{List, [], _∷_}
-use Prim.Native.Nat.{ℕ, zero, suc, _+_, _*_, _/_, _%_, _^_, _<_, _≤_, _-_}
+use Prim.Native.Nat.{ℕ, zero, suc, _+_, _/_, _%_}
 use Prim.Native.String.{String}
-use native.Mathlib.Nat.{zero-add}
 use native.Mathlib.Omega.{arith}
-use lib.Dec.{T, eqb, ltb, leb, eqb→eq}
-use lib.Text.{eqt, eqt→eq}
 use lib.ListN.{length}
-use Rattle.instructions.specs.Every.{both-left, both-right, all, all-at}
-use Rattle.instructions.specs.Encoding.{Row, pick, both, find, fits, lowFits, has, means, first}
-use Rattle.instructions.specs.Pages.{pages}
+use Rattle.instructions.specs.Encoding.{Row, pick, both, fits, lowFits, has, means, first}
+use Rattle.instructions.specs.Pages.{pages, basePages}
 use Rattle.instructions.specs.Decode.{decodeOf}
 use Rattle.instructions.specs.declared.Decoded.{Decoded}
 use Rattle.instructions.specs.declared.Decoded.the-variants.{Nothing}
@@ -78,3 +74,10 @@ page-means p w d e = e
 pub decode-at-place : (w : ℕ) → decodeOf w ≡ meaningAt (placeIn pages w) w
 unfolding decodeOf meaningAt
 decode-at-place w = first-place pages w
+
+-- section 4.3 has 133 pages, and 75 of them are the base's
+pub page-count : length pages ≡ 133
+page-count = refl
+
+pub base-count : length basePages ≡ 75
+base-count = refl

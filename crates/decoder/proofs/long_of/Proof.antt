@@ -1,4 +1,4 @@
-use borrow.Author.Tests.{lt-ltb, le-ltb, eq-eqb, ne-eqb}
+use borrow.Author.Tests.{lt-ltb, le-ltb}
 use Rattle.decoder.specs.Groups.{longPlace}
 use borrow.Author.Needs.{needs}
 use Rattle.decoder.proofs.long_of.Statement.{statement}

@@ -1,4 +1,4 @@
-use borrow.Author.Tests.{lt-ltb, le-ltb, eq-eqb, ne-eqb}
+use borrow.Author.Tests.{lt-ltb, le-ltb}
 use Rattle.decoder.specs.Kinds.{placeOfKind}
 use borrow.Author.Needs.{needs}
 use Rattle.decoder.proofs.page_of.Statement.{statement}

@@ -1,4 +1,4 @@
-use borrow.Author.Tests.{lt-ltb, le-ltb, eq-eqb, ne-eqb}
+use borrow.Author.Tests.{lt-ltb, le-ltb}
 use Rattle.instructions.specs.Encoding.{addressOf}
 use borrow.Author.Needs.{needs}
 use Rattle.meanings.proofs.address_of.Statement.{statement}

@@ -1,4 +1,4 @@
-use borrow.Author.Tests.{lt-ltb, le-ltb, eq-eqb, ne-eqb}
+use borrow.Author.Tests.{eq-eqb, ne-eqb}
 use Rattle.instructions.specs.Encoding.{nextOf}
 use Rattle.meanings.proofs.next_of.Statement.{statement}
 use Rattle.meanings.proofs.next_of.Tie as tie
