@@ -5,7 +5,7 @@ use board::regions;
 use board::slices;
 use instructions::Decoded;
 use instructions::Instruction;
-use instructions::decode;
+use decoder::decode;
 use machine::Machine;
 use plans::Plan;
 use plans::Write;

@@ -1,9 +1,9 @@
 -- How a page of section 4.3 prints an encoding: which words it has, and what its fields and its operand are.
 use mathlib.Core.Bool.{Bool, true, false, not}
 use mathlib.Core.List.{List, [], _∷_}
-use Prim.Native.Nat.{ℕ, zero, suc, _+_, _-_, _*_, _/_, _%_, _^_}
+use Prim.Native.Nat.{ℕ, zero, suc, _+_, _-_, _/_, _%_, _^_}
 use Prim.Native.String.{String, _++_, len, slice}
-use lib.Dec.{eqb, leb, ltb}
+use lib.Dec.{eqb, ltb}
 use lib.Text.{eqt}
 use Rattle.instructions.specs.declared.Modification.{Modification}
 use Rattle.instructions.specs.declared.Modification.the-variants.{None, Minus, Plus, MinusReversed, MinusIndex, PlusIndex, PlusReversed}

@@ -3,5 +3,3 @@ pub mod Pages
 pub mod Decode
 pub mod Every
 pub mod Places
-pub mod Groups
-pub mod Kinds

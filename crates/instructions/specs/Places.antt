@@ -1,17 +1,13 @@
--- The place of a word's page in the list of pages, found by the upper byte first, as a table can give it.
-use mathlib.Core.Path.{_≡_, refl, ap, subst, sym, _∙_}
-use mathlib.Core.Bool.{Bool, true, false, not}
+-- The place of a word's page in the list of pages, found by the upper byte first.
+use mathlib.Core.Path.{_≡_, refl}
+use mathlib.Core.Bool.{Bool, true, false}
 use mathlib.Core.List.{List, [], _∷_}
-use Prim.Native.Nat.{ℕ, zero, suc, _+_, _*_, _/_, _%_, _^_, _<_, _≤_, _-_}
+use Prim.Native.Nat.{ℕ, zero, suc, _+_, _/_, _%_}
 use Prim.Native.String.{String}
-use native.Mathlib.Nat.{zero-add}
 use native.Mathlib.Omega.{arith}
-use lib.Dec.{T, eqb, ltb, leb, eqb→eq}
-use lib.Text.{eqt, eqt→eq}
 use lib.ListN.{length}
-use Rattle.instructions.specs.Every.{both-left, both-right, all, all-at}
-use Rattle.instructions.specs.Encoding.{Row, pick, both, find, fits, lowFits, has, means, first}
-use Rattle.instructions.specs.Pages.{pages}
+use Rattle.instructions.specs.Encoding.{Row, pick, both, fits, lowFits, has, means, first}
+use Rattle.instructions.specs.Pages.{pages, basePages}
 use Rattle.instructions.specs.Decode.{decodeOf}
 use Rattle.instructions.specs.declared.Decoded.{Decoded}
 use Rattle.instructions.specs.declared.Decoded.the-variants.{Nothing}
@@ -27,7 +23,7 @@ meaningIn [] p w = Nothing
 meaningIn (r ∷ rs) zero w = means r w
 meaningIn (r ∷ rs) (suc p) w = meaningIn rs p w
 
-first-place : (rs : List Row) (w : ℕ) → first rs w ≡ meaningIn rs (placeIn rs w) w
+pub first-place : (rs : List Row) (w : ℕ) → first rs w ≡ meaningIn rs (placeIn rs w) w
 first-place [] w = refl
 first-place (r ∷ rs) w = go (has r w) (first-place rs w)
   where
@@ -46,7 +42,7 @@ lowerIn d [] low = d
 lowerIn d (e ∷ es) low = pick (lowFits (e .1) low) (e .0) (lowerIn d es low)
 
 -- by the upper byte first, and then by the lower
-by-bytes : (rs : List Row) (i w : ℕ) → lowerIn (i + length rs) (upperIn (w / 256) i rs) (w % 256) ≡ i + placeIn rs w
+pub by-bytes : (rs : List Row) (i w : ℕ) → lowerIn (i + length rs) (upperIn (w / 256) i rs) (w % 256) ≡ i + placeIn rs w
 by-bytes [] i w = refl
 by-bytes (r ∷ rs) i w =
     let a : i + suc (length rs) ≡ suc i + length rs = omega arith in
@@ -67,158 +63,21 @@ by-bytes (r ∷ rs) i w =
 unfoldable pub pagesOf : ℕ → List (ℕ × String)
 pagesOf u = upperIn u 0 pages
 
--- the first place of a list, or 133
-abbrev firstOf : List (ℕ × String) → ℕ
-firstOf [] = 133
-firstOf (e ∷ es) = e .0
-
--- What the table of upper bytes holds, from the first place with that upper byte: 200 for CEh, 201 for the long immediates, 202 for
--- them without LRLK, and the place itself for the others, where that page decides.
-abbrev kindAt : ℕ → ℕ → ℕ
-kindAt u p = pick (eqb u 0xCE) 200 (pick (ltb p 123) p (pick (eqb p 123) 201 202))
-
-unfoldable pub kindOf : ℕ → ℕ
-kindOf u = kindAt u (firstOf (pagesOf u))
-
-abbrev pub or : Bool → Bool → Bool
-or true b = true
-or false b = b
-
-abbrev between : ℕ → ℕ → ℕ → Bool
-between a b k = both (leb a k) (ltb k b)
-
--- the kinds with a low byte "IDDD DDDD"
-unfoldable pub isAddressed : ℕ → Bool
-isAddressed k = or (or (or (or (ltb k 15) (between 23 37 k)) (between 42 46 k)) (between 62 66 k)) (between 75 95 k)
-
--- the kinds with a low byte "1DDD DDDD"
-unfoldable pub isBranch : ℕ → Bool
-isBranch k = or (between 50 61 k) (between 95 100 k)
-
--- the pages of a kind that is a group: those with the first upper byte of it
-unfoldable pub groupOf : ℕ → List (ℕ × String)
-groupOf k = pagesOf (find 0xD8 ((200, 0xCE) ∷ (201, 0xD0) ∷ []) k)
-
-unfoldable pub placeOfKind : ℕ → ℕ → ℕ
-placeOfKind k low =
-    pick (isAddressed k) (pick (lowFits "IDDD DDDD" low) k 133)
-    (pick (isBranch k) (pick (lowFits "1DDD DDDD" low) k 133)
-    (pick (ltb k 200) k (lowerIn 133 (groupOf k) low)))
-
--- Test: a low byte of one of the pages es is a low byte as t prints it.
-noneOf : List (ℕ × String) → ℕ → Bool
-noneOf [] low = true
-noneOf (e ∷ es) low = pick (lowFits (e .1) low) false (noneOf es low)
-
-shadowed : String → List (ℕ × String) → Bool
-shadowed t [] = true
-shadowed t (e ∷ es) = all (λ low. pick (lowFits t low) true (noneOf (e ∷ es) low)) 8 0
-
-headed : ℕ → String → List (ℕ × String) → Bool
-headed k t [] = false
-headed k t (e ∷ es) = both (eqb (e .0) k) (both (eqt (e .1) t) (shadowed t es))
-
-sameAs : List (ℕ × String) → List (ℕ × String) → Bool
-sameAs [] [] = true
-sameAs [] (f ∷ fs) = false
-sameAs (e ∷ es) [] = false
-sameAs (e ∷ es) (f ∷ fs) = both (eqb (e .0) (f .0)) (both (eqt (e .1) (f .1)) (sameAs es fs))
-
--- Test: the pages es are those of the kind k.
-agree : List (ℕ × String) → ℕ → Bool
-agree es k =
-    pick (isAddressed k) (headed k "IDDD DDDD" es)
-    (pick (isBranch k) (headed k "1DDD DDDD" es)
-    (pick (ltb k 200) (headed k "KKKK KKKK" es) (sameAs es (groupOf k))))
-
-agreeAt : ℕ → List (ℕ × String) → Bool
-agreeAt u es = agree es (kindAt u (firstOf es))
-
--- the agreement of kinds and pages, over all upper bytes
-agreed : T (all (λ u. agreeAt u (pagesOf u)) 8 0)
-unfolding agree agreeAt isAddressed isBranch sameAs headed shadowed noneOf groupOf pagesOf kindOf lowFits
-agreed = tt
-
-none-lower : (es : List (ℕ × String)) (low : ℕ) → T (noneOf es low) → lowerIn 133 es low ≡ 133
-unfolding noneOf
-none-lower [] low t = refl
-none-lower (e ∷ es) low t = go (lowFits (e .1) low) (none-lower es low) t
-  where
-    go : (b : Bool) → (T (noneOf es low) → lowerIn 133 es low ≡ 133) → T (pick b false (noneOf es low))
-        → pick b (e .0) (lowerIn 133 es low) ≡ 133
-    go true f t = absurd t
-    go false f t = f t
-
-shadowed-lower : (k : ℕ) (t : String) (es : List (ℕ × String)) (low : ℕ) → low < 256 → T (shadowed t es)
-    → pick (lowFits t low) k (lowerIn 133 es low) ≡ pick (lowFits t low) k 133
-unfolding shadowed
-shadowed-lower k t [] low h s = refl
-shadowed-lower k t (e ∷ es) low h s =
-    go (lowFits t low)
-    (all-at (λ l. pick (lowFits t l) true (noneOf (e ∷ es) l)) 8 0 low s (omega arith) (omega arith))
-    (none-lower (e ∷ es) low)
-  where
-    go : (b : Bool) → T (pick b true (noneOf (e ∷ es) low)) → (T (noneOf (e ∷ es) low) → lowerIn 133 (e ∷ es) low ≡ 133)
-        → pick b k (lowerIn 133 (e ∷ es) low) ≡ pick b k 133
-    go true t f = refl
-    go false t f = f t
-
-headed-lower : (k : ℕ) (t : String) (es : List (ℕ × String)) (low : ℕ) → low < 256 → T (headed k t es)
-    → lowerIn 133 es low ≡ pick (lowFits t low) k 133
-unfolding headed
-headed-lower k t [] low h p = absurd p
-headed-lower k t (e ∷ es) low h p =
-    let q : T (both (eqt (e .1) t) (shadowed t es)) = both-right (eqb (e .0) k) (both (eqt (e .1) t) (shadowed t es)) p in
-    let k-is : e .0 ≡ k = eqb→eq (e .0) k (both-left (eqb (e .0) k) (both (eqt (e .1) t) (shadowed t es)) p) in
-    let t-is : e .1 ≡ t = eqt→eq (e .1) t (both-left (eqt (e .1) t) (shadowed t es) q) in
-    rw (k-is, t-is) (shadowed-lower k t es low h (both-right (eqt (e .1) t) (shadowed t es) q))
-
-same-lower : (es fs : List (ℕ × String)) (low : ℕ) → T (sameAs es fs) → lowerIn 133 es low ≡ lowerIn 133 fs low
-unfolding sameAs
-same-lower [] [] low p = refl
-same-lower [] (f ∷ fs) low p = absurd p
-same-lower (e ∷ es) [] low p = absurd p
-same-lower (e ∷ es) (f ∷ fs) low p =
-    let q : T (both (eqt (e .1) (f .1)) (sameAs es fs))
-    = both-right (eqb (e .0) (f .0)) (both (eqt (e .1) (f .1)) (sameAs es fs)) p in
-    let k-is : e .0 ≡ f .0 = eqb→eq (e .0) (f .0) (both-left (eqb (e .0) (f .0)) (both (eqt (e .1) (f .1)) (sameAs es fs)) p) in
-    let t-is : e .1 ≡ f .1 = eqt→eq (e .1) (f .1) (both-left (eqt (e .1) (f .1)) (sameAs es fs) q) in
-    rw (k-is, t-is, same-lower es fs low (both-right (eqt (e .1) (f .1)) (sameAs es fs) q))
-
-every-low : (k low : ℕ) → pick (lowFits "KKKK KKKK" low) k 133 ≡ k
-unfolding lowFits
-every-low k low = refl
-
-agree-lower : (es : List (ℕ × String)) (k low : ℕ) → low < 256 → T (agree es k) → lowerIn 133 es low ≡ placeOfKind k low
-unfolding agree placeOfKind
-agree-lower es k low h t = go (isAddressed k) (isBranch k) (ltb k 200) t
-  where
-    go : (a b c : Bool)
-        → T (pick a (headed k "IDDD DDDD" es) (pick b (headed k "1DDD DDDD" es) (pick c (headed k "KKKK KKKK" es) (sameAs es (groupOf k)))))
-        → lowerIn 133 es low
-        ≡ pick a (pick (lowFits "IDDD DDDD" low) k 133)
-        (pick b (pick (lowFits "1DDD DDDD" low) k 133) (pick c k (lowerIn 133 (groupOf k) low)))
-    go true b c t = headed-lower k "IDDD DDDD" es low h t
-    go false true c t = headed-lower k "1DDD DDDD" es low h t
-    go false false true t = headed-lower k "KKKK KKKK" es low h t ∙ every-low k low
-    go false false false t = same-lower es (groupOf k) low t
-
--- the place of a word's page, from the kind of its upper byte and its low byte
-pub place-of-kind : (w : ℕ) → w < 65536 → placeIn pages w ≡ placeOfKind (kindOf (w / 256)) (w % 256)
-unfolding kindOf agreeAt pagesOf
-place-of-kind w h =
-    sym (by-bytes pages 0 w ∙ zero-add (placeIn pages w))
-    ∙ agree-lower (upperIn (w / 256) 0 pages) (kindOf (w / 256)) (w % 256) (omega arith)
-    (all-at (λ u. agreeAt u (pagesOf u)) 8 0 (w / 256) agreed (omega arith) (omega arith))
-
 -- what the page at a place makes of a word
 unfoldable pub meaningAt : ℕ → ℕ → Decoded
 meaningAt p w = meaningIn pages p w
 
-pub decode-by-place : (w : ℕ) → w < 65536 → decodeOf w ≡ meaningAt (placeOfKind (kindOf (w / 256)) (w % 256)) w
-unfolding decodeOf meaningAt
-decode-by-place w h = first-place pages w ∙ ap (λ (p : ℕ). meaningIn pages p w) (place-of-kind w h)
-
 pub page-means : (p w : ℕ) (d : Decoded) → d ≡ meaningIn pages p w → d ≡ meaningAt p w
 unfolding meaningAt
 page-means p w d e = e
+
+pub decode-at-place : (w : ℕ) → decodeOf w ≡ meaningAt (placeIn pages w) w
+unfolding decodeOf meaningAt
+decode-at-place w = first-place pages w
+
+-- section 4.3 has 133 pages, and 75 of them are the base's
+pub page-count : length pages ≡ 133
+page-count = refl
+
+pub base-count : length basePages ≡ 75
+base-count = refl

@@ -1,0 +1,454 @@
+// The decoder: a table of the 256 upper bytes gives the kind, and the low byte the page.
+ghost use mathlib.Core.Path.{_≡_};
+ghost use Rattle.instructions.specs.Encoding.{lowFits};
+ghost use Rattle.instructions.specs.Decode.{decodeOf};
+ghost use Rattle.instructions.specs.Places.{lowerIn};
+ghost use Rattle.decoder.specs.Kinds.{kindOf, isAddressed, isBranch, placeOfKind, groupOf};
+ghost use Rattle.decoder.specs.Groups.{controlPlace, controls, longPlace};
+use instructions::Decoded;
+
+// The kind of each upper byte: the place of its page in the list of section 4.3's pages (0 to 74 are the base's, 75 to 132 the
+// others), or CONTROL, LONG or LONG + 1 where more than one page has the byte.
+const KINDS: [u8; 256] = [
+    0,
+    0,
+    0,
+    0,
+    0,
+    0,
+    0,
+    0,
+    0,
+    0,
+    0,
+    0,
+    0,
+    0,
+    0,
+    0,
+    1,
+    1,
+    1,
+    1,
+    1,
+    1,
+    1,
+    1,
+    1,
+    1,
+    1,
+    1,
+    1,
+    1,
+    1,
+    1,
+    2,
+    2,
+    2,
+    2,
+    2,
+    2,
+    2,
+    2,
+    2,
+    2,
+    2,
+    2,
+    2,
+    2,
+    2,
+    2,
+    42,
+    42,
+    42,
+    42,
+    42,
+    42,
+    42,
+    42,
+    28,
+    31,
+    29,
+    30,
+    23,
+    24,
+    25,
+    26,
+    8,
+    9,
+    77,
+    75,
+    5,
+    6,
+    79,
+    7,
+    3,
+    4,
+    76,
+    65,
+    12,
+    11,
+    10,
+    78,
+    89,
+    90,
+    45,
+    81,
+    92,
+    44,
+    62,
+    88,
+    85,
+    86,
+    32,
+    27,
+    34,
+    33,
+    97,
+    99,
+    13,
+    13,
+    13,
+    13,
+    13,
+    13,
+    13,
+    13,
+    14,
+    14,
+    14,
+    14,
+    14,
+    14,
+    14,
+    14,
+    43,
+    43,
+    43,
+    43,
+    43,
+    43,
+    43,
+    43,
+    93,
+    94,
+    91,
+    80,
+    35,
+    36,
+    47,
+    48,
+    63,
+    63,
+    63,
+    63,
+    63,
+    63,
+    63,
+    63,
+    63,
+    63,
+    63,
+    63,
+    63,
+    63,
+    63,
+    63,
+    87,
+    87,
+    87,
+    87,
+    87,
+    87,
+    87,
+    87,
+    87,
+    87,
+    87,
+    87,
+    87,
+    87,
+    87,
+    87,
+    37,
+    37,
+    37,
+    37,
+    37,
+    37,
+    37,
+    37,
+    37,
+    37,
+    37,
+    37,
+    37,
+    37,
+    37,
+    37,
+    37,
+    37,
+    37,
+    37,
+    37,
+    37,
+    37,
+    37,
+    37,
+    37,
+    37,
+    37,
+    37,
+    37,
+    37,
+    37,
+    46,
+    46,
+    46,
+    46,
+    46,
+    46,
+    46,
+    46,
+    49,
+    49,
+    15,
+    66,
+    16,
+    17,
+    200,
+    82,
+    201,
+    201,
+    201,
+    201,
+    201,
+    201,
+    201,
+    201,
+    202,
+    202,
+    202,
+    202,
+    202,
+    202,
+    202,
+    202,
+    64,
+    64,
+    64,
+    64,
+    64,
+    64,
+    64,
+    64,
+    64,
+    64,
+    64,
+    64,
+    64,
+    64,
+    64,
+    64,
+    58,
+    54,
+    57,
+    56,
+    55,
+    53,
+    52,
+    59,
+    96,
+    95,
+    98,
+    51,
+    84,
+    83,
+    60,
+    50,
+];
+
+// The pages with the upper byte CEh.
+const CONTROL: u8 = 200;
+// The long immediates, D0h to D7h; from D8h on they are without LRLK.
+const LONG: u8 = 201;
+// The place that says that no page has the word.
+const NO_PAGE: u8 = 133;
+
+// The places of CEh's pages, for the low bytes below 64.
+const CONTROLS: [u8; 64] = [
+    104,
+    103,
+    68,
+    67,
+    71,
+    72,
+    70,
+    69,
+    41,
+    41,
+    41,
+    41,
+    114,
+    120,
+    105,
+    105,
+    133,
+    133,
+    133,
+    133,
+    38,
+    39,
+    40,
+    133,
+    21,
+    22,
+    133,
+    20,
+    73,
+    74,
+    121,
+    106,
+    113,
+    119,
+    133,
+    19,
+    101,
+    100,
+    61,
+    18,
+    133,
+    133,
+    133,
+    133,
+    133,
+    133,
+    133,
+    133,
+    107,
+    115,
+    112,
+    118,
+    110,
+    111,
+    108,
+    116,
+    109,
+    117,
+    133,
+    133,
+    133,
+    133,
+    133,
+    133,
+];
+
+fn kind_of(upper: u8) -> u8
+    ensures { λ r. ⌜ r ≡ kindOf upper ⌝ }
+{
+    let i = upper as usize;
+    KINDS[i]
+}
+
+// CEh and a low byte: above 63 there are CMPR (0101 00KK) and NORM (1MMM 0010).
+fn control_of(low: u8) -> u8
+    ensures { λ r. ⌜ r ≡ controlPlace controls low ⌝ }
+{
+    if low < 64 {
+        let i = low as usize;
+        return CONTROLS[i];
+    }
+    if low / 4 == 20 {
+        return 102;
+    }
+    if (128 <= low) & (low % 16 == 2) & (low / 16 != 11) {
+        return 122;
+    }
+    NO_PAGE
+}
+
+// A long immediate's low byte: 0 (LRLK) or 1 to 6.
+fn long_of(least: u8, low: u8) -> u8
+    ensures { λ r. ⌜ r ≡ longPlace least low ⌝ }
+{
+    if 7 <= low {
+        return NO_PAGE;
+    }
+    if low < least {
+        return NO_PAGE;
+    }
+    123 + low
+}
+
+fn group_page(kind: u8, low: u8) -> u8
+    ensures { λ r. ⌜ r ≡ lowerIn 133 (groupOf kind) low ⌝ }
+{
+    if kind == CONTROL {
+        return control_of(low);
+    }
+    if kind == LONG {
+        return long_of(0, low);
+    }
+    long_of(1, low)
+}
+
+// The kinds with a low byte IDDD DDDD.
+fn is_addressed(kind: u8) -> bool
+    ensures { λ r. ⌜ r ≡ isAddressed kind ⌝ }
+{
+    (kind < 15)
+        | ((23 <= kind) & (kind < 37))
+        | ((42 <= kind) & (kind < 46))
+        | ((62 <= kind) & (kind < 66))
+        | ((75 <= kind) & (kind < 95))
+}
+
+// The kinds with a low byte 1DDD DDDD.
+fn is_branch(kind: u8) -> bool
+    ensures { λ r. ⌜ r ≡ isBranch kind ⌝ }
+{
+    ((50 <= kind) & (kind < 61)) | ((95 <= kind) & (kind < 100))
+}
+
+// A low byte is IDDD DDDD where its modification is not the reserved one.
+fn is_operand(low: u8) -> bool
+    ensures { λ r. ⌜ r ≡ lowFits "IDDD DDDD" low ⌝ }
+{
+    low / 16 != 11
+}
+
+fn is_indirect(low: u8) -> bool
+    ensures { λ r. ⌜ r ≡ lowFits "1DDD DDDD" low ⌝ }
+{
+    (low / 128 % 2 == 1) & (low / 16 != 11)
+}
+
+// The place of the page of a kind and a low byte.
+fn page_of(kind: u8, low: u8) -> u8
+    ensures { λ r. ⌜ r ≡ placeOfKind kind low ⌝ }
+{
+    if is_addressed(kind) {
+        if is_operand(low) {
+            return kind;
+        }
+        return NO_PAGE;
+    }
+    if is_branch(kind) {
+        if is_indirect(low) {
+            return kind;
+        }
+        return NO_PAGE;
+    }
+    if kind < CONTROL {
+        return kind;
+    }
+    group_page(kind, low)
+}
+
+// What a word is.
+pub fn decode(w: u16) -> Decoded
+    ensures { λ r. ⌜ r ≡ decodeOf w ⌝ }
+{
+    let kind = kind_of((w / 256) as u8);
+    meanings::meaning(page_of(kind, (w % 256) as u8), w)
+}

@@ -1,0 +1,75 @@
+use Rattle.instructions.specs.Places.{page-means}
+use Rattle.meanings.proofs.LastKey.{last-key}
+use native.Mathlib.Nat.{div-one}
+use borrow.Author.Needs.{needs}
+use Rattle.meanings.proofs.auxiliary_page.Statement.{statement}
+use Rattle.meanings.proofs.auxiliary_page.Tie as tie
+
+cast-address-of : tie.Need-cast-address-of
+cast-address-of c = search needs
+
+address-of-requires : tie.Need-address-of-requires
+address-of-requires c κs = search needs
+
+cast-t9 : tie.Need-cast-t9
+cast-t9 c = search needs
+
+cast-t12 : tie.Need-cast-t12
+cast-t12 c = search needs
+
+cast-t15 : tie.Need-cast-t15
+cast-t15 c = search needs
+
+cast-t17 : tie.Need-cast-t17
+cast-t17 c = search needs
+
+cast-t19 : tie.Need-cast-t19
+cast-t19 c = search needs
+
+cast-t21 : tie.Need-cast-t21
+cast-t21 c = search needs
+
+returns : tie.Need-returns
+returns c = rw (c .match .keys1) (page-means _ _ _ (rw (← c .before .address-of .ensures)))
+
+returns-2 : tie.Need-returns-2
+returns-2 c = rw (c .match .keys2) (page-means _ _ _ (rw (← c .before .address-of .ensures)))
+
+returns-3 : tie.Need-returns-3
+returns-3 c = rw (c .match .keys3) (page-means _ _ _ (rw (← c .before .address-of .ensures)))
+
+returns-4 : tie.Need-returns-4
+returns-4 c = rw (c .match .keys4) (page-means _ _ _ (rw (← c .before .address-of .ensures)))
+
+returns-5 : tie.Need-returns-5
+returns-5 c = rw (c .match .keys5) (page-means _ _ _ (rw (div-one (c .before .before .args .w))))
+
+returns-6 : tie.Need-returns-6
+returns-6 c = rw (c .match .keys6) (page-means _ _ _ (rw (div-one (c .before .before .args .w))))
+
+returns-7 : tie.Need-returns-7
+returns-7 c = rw (c .match .keys7) (page-means _ _ _ (rw (div-one (c .before .before .args .w))))
+
+returns-8 : tie.Need-returns-8
+returns-8 c = rw (last-key 42 7 (c .before .before .args .page) (c .match .rest) (search needs) (search needs)) (page-means _ _ _ (rw (div-one (c .before .before .args .w))))
+
+pub auxiliary-page-spec : {M : Type 1} → statement M
+auxiliary-page-spec =
+    tie.close
+    (tie.spec
+    cast-address-of
+    address-of-requires
+    cast-t9
+    cast-t12
+    cast-t15
+    cast-t17
+    cast-t19
+    cast-t21
+    returns
+    returns-2
+    returns-3
+    returns-4
+    returns-5
+    returns-6
+    returns-7
+    returns-8)

@@ -1,0 +1,67 @@
+use mathlib.Core.Path.{refl}
+use Rattle.instructions.specs.Places.{page-means}
+use Rattle.meanings.proofs.LastKey.{last-key}
+use borrow.Author.Needs.{needs}
+use Rattle.meanings.proofs.branch_page.Statement.{statement}
+use Rattle.meanings.proofs.branch_page.Tie as tie
+
+cast-indirect-of : tie.Need-cast-indirect-of
+cast-indirect-of c = search needs
+
+indirect-of-requires : tie.Need-indirect-of-requires
+indirect-of-requires c κs = search needs
+
+returns : tie.Need-returns
+returns c = rw (c .match .keys1) (page-means _ _ _ (rw (← c .before .indirect-of .ensures)))
+
+returns-2 : tie.Need-returns-2
+returns-2 c = rw (c .match .keys2) (page-means _ _ _ (rw (← c .before .indirect-of .ensures)))
+
+returns-3 : tie.Need-returns-3
+returns-3 c = rw (c .match .keys3) (page-means _ _ _ (rw (← c .before .indirect-of .ensures)))
+
+returns-4 : tie.Need-returns-4
+returns-4 c = rw (c .match .keys4) (page-means _ _ _ (rw (← c .before .indirect-of .ensures)))
+
+returns-5 : tie.Need-returns-5
+returns-5 c = rw (c .match .keys5) (page-means _ _ _ (rw (← c .before .indirect-of .ensures)))
+
+returns-6 : tie.Need-returns-6
+returns-6 c = rw (c .match .keys6) (page-means _ _ _ (rw (← c .before .indirect-of .ensures)))
+
+returns-7 : tie.Need-returns-7
+returns-7 c = rw (c .match .keys7) (page-means _ _ _ (rw (← c .before .indirect-of .ensures)))
+
+returns-8 : tie.Need-returns-8
+returns-8 c = rw (c .match .keys8) (page-means _ _ _ (rw (← c .before .indirect-of .ensures)))
+
+returns-9 : tie.Need-returns-9
+returns-9 c = rw (c .match .keys9) (page-means _ _ _ (rw (← c .before .indirect-of .ensures)))
+
+returns-10 : tie.Need-returns-10
+returns-10 c = rw (c .match .keys10) (page-means _ _ _ (rw (← c .before .indirect-of .ensures)))
+
+returns-11 : tie.Need-returns-11
+returns-11 c = rw (c .match .keys11) (page-means _ _ _ (rw (← c .before .indirect-of .ensures)))
+
+returns-12 : tie.Need-returns-12
+returns-12 c = rw (last-key 50 11 (c .before .before .args .page) (c .match .rest) (search needs) (search needs)) (page-means _ _ _ refl)
+
+pub branch-page-spec : {M : Type 1} → statement M
+branch-page-spec =
+    tie.close
+    (tie.spec
+    cast-indirect-of
+    indirect-of-requires
+    returns
+    returns-2
+    returns-3
+    returns-4
+    returns-5
+    returns-6
+    returns-7
+    returns-8
+    returns-9
+    returns-10
+    returns-11
+    returns-12)

@@ -1,0 +1,64 @@
+use mathlib.Core.Path.{refl}
+use Rattle.instructions.specs.Places.{page-means}
+use Rattle.meanings.proofs.LastKey.{last-key}
+use native.Mathlib.Nat.{div-one}
+use borrow.Author.Needs.{needs}
+use Rattle.meanings.proofs.mode_page.Statement.{statement}
+use Rattle.meanings.proofs.mode_page.Tie as tie
+
+cast-address-of : tie.Need-cast-address-of
+cast-address-of c = search needs
+
+address-of-requires : tie.Need-address-of-requires
+address-of-requires c κs = search needs
+
+cast-t8 : tie.Need-cast-t8
+cast-t8 c = search needs
+
+returns : tie.Need-returns
+returns c = rw (c .match .keys1) (page-means _ _ _ (rw (← c .before .address-of .ensures)))
+
+returns-2 : tie.Need-returns-2
+returns-2 c = rw (c .match .keys2) (page-means _ _ _ (rw (div-one (c .before .before .args .w))))
+
+returns-3 : tie.Need-returns-3
+returns-3 c = rw (c .match .keys3) (page-means _ _ _ refl)
+
+returns-4 : tie.Need-returns-4
+returns-4 c = rw (c .match .keys4) (page-means _ _ _ refl)
+
+returns-5 : tie.Need-returns-5
+returns-5 c = rw (c .match .keys5) (page-means _ _ _ refl)
+
+returns-6 : tie.Need-returns-6
+returns-6 c = rw (c .match .keys6) (page-means _ _ _ refl)
+
+returns-7 : tie.Need-returns-7
+returns-7 c = rw (c .match .keys7) (page-means _ _ _ refl)
+
+returns-8 : tie.Need-returns-8
+returns-8 c = rw (c .match .keys8) (page-means _ _ _ refl)
+
+returns-9 : tie.Need-returns-9
+returns-9 c = rw (c .match .keys9) (page-means _ _ _ refl)
+
+returns-10 : tie.Need-returns-10
+returns-10 c = rw (last-key 65 9 (c .before .before .args .page) (c .match .rest) (search needs) (search needs)) (page-means _ _ _ refl)
+
+pub mode-page-spec : {M : Type 1} → statement M
+mode-page-spec =
+    tie.close
+    (tie.spec
+    cast-address-of
+    address-of-requires
+    cast-t8
+    returns
+    returns-2
+    returns-3
+    returns-4
+    returns-5
+    returns-6
+    returns-7
+    returns-8
+    returns-9
+    returns-10)

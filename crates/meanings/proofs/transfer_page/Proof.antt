@@ -1,0 +1,31 @@
+use Rattle.instructions.specs.Places.{page-means}
+use Rattle.meanings.proofs.LastKey.{last-key}
+use borrow.Author.Needs.{needs}
+use Rattle.meanings.proofs.transfer_page.Statement.{statement}
+use Rattle.meanings.proofs.transfer_page.Tie as tie
+
+cast-address-of : tie.Need-cast-address-of
+cast-address-of c = search needs
+
+address-of-requires : tie.Need-address-of-requires
+address-of-requires c κs = search needs
+
+cast-t9 : tie.Need-cast-t9
+cast-t9 c = search needs
+
+cast-t12 : tie.Need-cast-t12
+cast-t12 c = search needs
+
+returns : tie.Need-returns
+returns c = rw (c .match .keys1) (page-means _ _ _ (rw (← c .before .address-of .ensures)))
+
+returns-2 : tie.Need-returns-2
+returns-2 c = rw (c .match .keys2) (page-means _ _ _ (rw (← c .before .address-of .ensures)))
+
+returns-3 : tie.Need-returns-3
+returns-3 c = rw (last-key 62 2 (c .before .before .args .page) (c .match .rest) (search needs) (search needs)) (page-means _ _ _ (rw (← c .before .address-of .ensures)))
+
+pub transfer-page-spec : {M : Type 1} → statement M
+transfer-page-spec =
+    tie.close
+    (tie.spec cast-address-of address-of-requires cast-t9 cast-t12 returns returns-2 returns-3)
