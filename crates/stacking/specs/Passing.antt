@@ -104,7 +104,7 @@ operand-alike (Operand.At (Mode.Indirect i)) m =
     pointed-alike (i .next) m _ (record { acc = refl; p = refl; ov = refl; ovm = refl; pm = refl; cnf = refl; pc = refl; rptc = refl })
 
 -- ---- what follows a pass
-pub accumulationOf : Machine → Accumulation
+unfoldable pub accumulationOf : Machine → Accumulation
 accumulationOf m = record { acc = m .acc; p = m .p; ov = m .ov }
 
 pub record Follows (m n : Machine) : Type 0 where
