@@ -1,0 +1,39 @@
+-- Check 2 over the lent slices, and the page part that a direct store is made into.
+use mathlib.Core.Bool.{Bool, cond, _&&_}
+use mathlib.Core.List.{List, _++_}
+use Prim.Native.Nat.{ℕ, _+_, _*_}
+use lib.Dec.{leb, eqb}
+use lib.ListN.{length, take, drop, set}
+use lib.Seq.{slice}
+use Rattle.machine.specs.declared.Machine.{Machine}
+
+-- "program or data slice is not 4,096 words"
+unfoldable pub memoriesFit : List ℕ → List ℕ → Bool
+memoriesFit rom «data» = eqb (length rom) 4096 && eqb (length «data») 4096
+
+-- "a port slice is over 1,024, a cursor is past its slice"; a cursor at the slice's end is not past it (ruling R14)
+unfoldable pub portFits : ℕ → ℕ → Bool
+portFits size cursor = leb size 1024 && leb cursor size
+
+-- "An IN from a port run dry"; "OUT with the output slice full"
+unfoldable pub portSpent : ℕ → ℕ → Bool
+portSpent size cursor = leb size cursor
+
+-- "2" is given in a step or a run exactly where this test fails
+unfoldable pub slicesFit : Machine → List ℕ → List ℕ → List ℕ → ℕ → Bool
+slicesFit m rom «data» input outputLength =
+    memoriesFit rom «data»
+    && portFits (length input) (m .«input_cursor»)
+    && portFits outputLength (m .«output_cursor»)
+
+-- "A data page is the 128 words from 128 times DP"
+unfoldable pub pagePart : ℕ → List ℕ → List ℕ
+pagePart page «data» = slice (128 * page) (128 * page + 128) «data»
+
+-- "a direct store is made into that part and into nothing outside it": what is before the part, the part with the word at the offset, what is after it.
+-- Where the slice does not have the whole page, or the page has no such offset, nothing is stored.
+unfoldable pub pageStored : List ℕ → ℕ → ℕ → ℕ → List ℕ
+pageStored «data» page offset word =
+    cond (leb (128 * page + 128) (length «data»))
+    (take (128 * page) «data» ++ set (pagePart page «data») offset word ++ drop (128 * page + 128) «data»)
+    «data»
