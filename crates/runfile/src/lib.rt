@@ -1,0 +1,4 @@
+// The run file: reading it, setting up lent memories from it, writing it.
+pub mod reading;
+pub mod setting_up;
+pub mod writing;
