@@ -180,3 +180,13 @@ module _ (c : Contents) (bytes : List ℕ) where
       → (Done ≡ writeAnswer c bytes) × (after ≡ written c bytes)
   unfolding writeAnswer written
   write-done after h room e = simp (h, le-leb _ _ room) (refl, e ∙ sets-front (fileOf c) bytes room)
+
+  pub write-facts : writeAnswer c bytes ≡ Done → (withinLimits c ≡ true) × (length (fileOf c) ≤ length bytes)
+  unfolding writeAnswer
+  write-facts h = by (withinLimits c) refl (leb (length (fileOf c)) (length bytes)) refl
+    where
+      by : (within : Bool) → withinLimits c ≡ within → (room : Bool) → leb (length (fileOf c)) (length bytes) ≡ room
+          → (withinLimits c ≡ true) × (length (fileOf c) ≤ length bytes)
+      by false w room r = absurd (false≢true (ap isDone (simp w at h)))
+      by true w false r = absurd (false≢true (ap isDone (simp (w, r) at h)))
+      by true w true r = (w, leb-true _ _ r)

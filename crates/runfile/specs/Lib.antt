@@ -7,3 +7,4 @@ pub mod Facts
 -- laws
 pub mod WordLaws
 pub mod FileLaws
+pub mod RoundTrip

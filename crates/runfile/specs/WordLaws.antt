@@ -123,11 +123,14 @@ bytes-words bytes below (suc n) at h =
     rw (low, high, twice, drop-cons bytes at 0, drop-cons bytes (suc at) 0, bytes-words bytes below n (at + 2) (omega arith), rest, add-one)
 
 -- a word made of two bytes is a 16-bit number
-pub words-below : (bytes : List ℕ) → Below 256 bytes → (n at : ℕ) → Below 65536 (wordsAt bytes at n)
-unfolding wordsAt
-words-below bytes below zero at i = omega arith
-words-below bytes below (suc n) at zero =
+pub word-below : (bytes : List ℕ) → Below 256 bytes → (at : ℕ) → wordAt bytes at < 65536
+word-below bytes below at =
     let low = below at in
     let high = below (at + 1) in
     omega arith
+
+pub words-below : (bytes : List ℕ) → Below 256 bytes → (n at : ℕ) → Below 65536 (wordsAt bytes at n)
+unfolding wordsAt
+words-below bytes below zero at i = omega arith
+words-below bytes below (suc n) at zero = word-below bytes below at
 words-below bytes below (suc n) at (suc i) = words-below bytes below n (at + 2) i
