@@ -6,13 +6,13 @@ use Prim.Native.Nat.{ℕ, _+_, _*_, _≤_, _<_}
 use lib.ListN.{length, getD}
 use Rattle.answers.specs.Numbers.{isDone}
 use Rattle.board.specs.Facts.{MemoriesFit}
-use Rattle.runfile.specs.declared.reading.EightNumbers.{EightNumbers}
+use Rattle.runfile.specs.declared.numbers.EightNumbers.{EightNumbers}
 use Rattle.runfile.specs.Files.{Contents, fileOf, withinLimits, numbersOf, readAnswer}
 use Rattle.runfile.specs.SetUp.{Lent}
 
 -- each number of a list is below a bound: bytes below 256, words below 65,536
-abbrev pub Below : ℕ → List ℕ → Type 0
-Below bound l = (i : ℕ) → getD l i 0 < bound
+pub record Below (bound : ℕ) (l : List ℕ) : Type 0 where
+  pub at : (i : ℕ) → getD l i 0 < bound
 
 pub record CountsKept (programCount dataCount inputCount : ℕ) : Type 0 where
   pub program-most : programCount ≤ 4096

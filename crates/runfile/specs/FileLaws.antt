@@ -1,26 +1,25 @@
 -- Laws of a file's tests, of what it reads as, of set-up and of writing.
-use mathlib.Core.Path.{_≡_, refl, sym, ap, _∙_}
+use mathlib.Core.Path.{_≡_, refl, ap, _∙_}
 use mathlib.Core.Bool.{Bool, true, false, _&&_, false≢true}
-use mathlib.Core.List.{List, [], _∷_, _++_}
+use mathlib.Core.List.{List}
 use Prim.Native.Nat.{ℕ, _+_, _*_, _≤_, _<_}
 use native.Mathlib.Omega.{arith}
 use lib.Dec.{ltb, leb, eqb}
-use lib.ListN.{length, drop, length-append}
+use lib.ListN.{length, length-append}
 use lib.Seq.{sets}
 use borrow.Author.Tests.{leb-true, le-leb, eqb-true, eq-eqb, ltb-false, le-ltb, lt-leb}
 use Rattle.answers.specs.declared.Answer.{Answer}
-use Rattle.answers.specs.declared.Answer.the-variants.{Done, FileShort, FileVersion, FileRules, FileNoRoom}
+use Rattle.answers.specs.declared.Answer.the-variants.{Done, FileRules, FileNoRoom}
 use Rattle.answers.specs.Numbers.{isDone}
-use Rattle.board.specs.Slices.{memoriesFit}
-use Rattle.board.specs.SliceLaws.{memories-fit}
 use Rattle.board.specs.Facts.{MemoriesFit}
-use Rattle.runfile.specs.declared.reading.EightNumbers.{EightNumbers}
+use Rattle.board.specs.SliceLaws.{memories-fit}
+use Rattle.runfile.specs.declared.numbers.EightNumbers.{EightNumbers}
 use Rattle.runfile.specs.declared.reading.Head.{Head}
 use Rattle.runfile.specs.Files.{Contents, bytesOf, headWords, fileOf, fileLength, countsKept, withinLimits, numbersOf, rulesKept, readAnswer, readContents, sectionsOf, noContents, wordsAt, headOf}
-use Rattle.runfile.specs.SetUp.{Lent, lentFit, setUpAnswer, memoryWith, loaded, setUp}
+use Rattle.runfile.specs.SetUp.{Lent, lent, lentFit, setUpAnswer, memoryWith, loaded, setUp}
 use Rattle.runfile.specs.Writing.{writeAnswer, written}
 use Rattle.runfile.specs.Facts.{CountsKept, RulesKept, Accepted, SetUpDone}
-use Rattle.runfile.specs.WordLaws.{bytes-length, bytes-append, words-length, sets-append, sets-front, sets-whole}
+use Rattle.runfile.specs.WordLaws.{bytes-length, bytes-append, words-length, sets-append, sets-front, sets-whole, memory-length}
 
 -- the counts and the budget among the eight numbers
 abbrev countsOf : EightNumbers → Head
@@ -134,16 +133,31 @@ module _ (bytes : List ℕ) where
   unfolding setUp
   set-up-loaded l h = simp h (ap loaded (read-done (set-up-done l h .file-done)))
 
-  -- the three slices once the file's sections are stored
-  pub set-up-stored : (l after : Lent) (n : EightNumbers) → isDone (setUpAnswer bytes l) ≡ true → n ≡ numbersOf bytes
-      → after .rom ≡ memoryWith 0 (wordsAt bytes (n .«program_offset») (n .«program_count»))
-      → after .data-memory ≡ memoryWith 0x400 (wordsAt bytes (n .«data_offset») (n .«data_count»))
-      → after .input ≡ sets (l .input) 0 (wordsAt bytes (n .«input_offset») (n .«input_count»))
-      → (after .rom ≡ setUp bytes l .rom) × ((after .data-memory ≡ setUp bytes l .data-memory) × (after .input ≡ setUp bytes l .input))
+  -- what was set up still fits
+  pub set-up-fits : (l : Lent) → isDone (setUpAnswer bytes l) ≡ true → MemoriesFit (setUp bytes l .rom) (setUp bytes l .data-memory)
   unfolding loaded sectionsOf
-  set-up-stored l after n h e rom dataMemory input =
-      let size : length (wordsAt bytes (n .«input_offset») (n .«input_count»)) ≡ length (l .input) = words-length _ _ _ ∙ rw e (sym (set-up-done l h .input-size)) in
-      rw (set-up-loaded l h, ← e) (rom, (dataMemory, input ∙ sets-whole _ _ size))
+  set-up-fits l h =
+      let counts = set-up-done l h .file-accepted .rules .counts in
+      rw (set-up-loaded l h)
+      (record {
+        rom-size = memory-length _ _ (rw words-length (omega arith));
+        data-size = memory-length _ _ (rw words-length (omega arith));
+      })
+
+  -- each slice, once the sections are loaded
+  pub set-up-stored : (l after : Lent) → isDone (setUpAnswer bytes l) ≡ true → after ≡ loaded (sectionsOf bytes)
+      → (after .rom ≡ setUp bytes l .rom) × ((after .data-memory ≡ setUp bytes l .data-memory) × (after .input ≡ setUp bytes l .input))
+  set-up-stored l after h e = rw (set-up-loaded l h, e) (refl, (refl, refl))
+
+  pub sections-stored : (rom dataMemory input₀ input : List ℕ) (n : EightNumbers) → length input₀ ≡ numbersOf bytes .«input_count» → n ≡ numbersOf bytes
+      → rom ≡ memoryWith 0 (wordsAt bytes (n .«program_offset») (n .«program_count»))
+      → dataMemory ≡ memoryWith 0x400 (wordsAt bytes (n .«data_offset») (n .«data_count»))
+      → input ≡ sets input₀ 0 (wordsAt bytes (n .«input_offset») (n .«input_count»)) → lent rom dataMemory input ≡ loaded (sectionsOf bytes)
+  unfolding loaded sectionsOf
+  sections-stored rom dataMemory input₀ input n size e r d i =
+      let whole : length (wordsAt bytes (n .«input_offset») (n .«input_count»)) ≡ length input₀ = words-length _ _ _ ∙ rw (size, e) in
+      let stored : input ≡ wordsAt bytes (n .«input_offset») (n .«input_count») = i ∙ sets-whole _ _ whole in
+      rw (r, d, stored, e)
 
 -- what an answer's flag tells of the answer
 pub told : {flag t : Bool} {found a : Answer} → found ≡ a → flag ≡ isDone found → flag ≡ t → isDone a ≡ t

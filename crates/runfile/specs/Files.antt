@@ -7,7 +7,7 @@ use lib.ListN.{length, getD}
 use Rattle.answers.specs.declared.Answer.{Answer}
 use Rattle.answers.specs.declared.Answer.the-variants.{Done, FileShort, FileVersion, FileRules}
 use Rattle.answers.specs.Numbers.{isDone}
-use Rattle.runfile.specs.declared.reading.EightNumbers.{EightNumbers}
+use Rattle.runfile.specs.declared.numbers.EightNumbers.{EightNumbers}
 use Rattle.runfile.specs.declared.reading.Head.{Head}
 
 -- "A file's contents are its three word lists and the budget."

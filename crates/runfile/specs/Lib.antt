@@ -2,6 +2,8 @@
 pub mod Files
 pub mod SetUp
 pub mod Writing
+-- the file that document 01 prints
+pub mod Example
 -- words of the laws
 pub mod Facts
 -- laws

@@ -2,20 +2,19 @@
 use mathlib.Core.Path.{_≡_, refl, sym, ap, _∙_}
 use mathlib.Core.Bool.{true}
 use mathlib.Core.List.{List, [], _∷_, _++_, append-assoc, append-nil}
-use Prim.Native.Nat.{ℕ, _+_, _*_, _≤_}
+use Prim.Native.Nat.{ℕ, _+_, _*_, _≤_, _<_}
 use native.Mathlib.Omega.{arith}
 use lib.ListN.{length, take, drop, length-append}
 use lib.Seq.{take-at, drop-at, take-all}
 use borrow.Author.Tests.{le-leb}
-use Rattle.answers.specs.declared.Answer.{Answer}
 use Rattle.answers.specs.declared.Answer.the-variants.{Done}
 use Rattle.answers.specs.Numbers.{isDone}
-use Rattle.runfile.specs.declared.reading.EightNumbers.{EightNumbers}
-use Rattle.runfile.specs.Files.{Contents, bytesOf, headWords, fileOf, fileLength, withinLimits, wordsAt, numbersOf, readAnswer, readContents, sectionsOf}
+use Rattle.runfile.specs.declared.numbers.EightNumbers.{EightNumbers}
+use Rattle.runfile.specs.Files.{Contents, headWords, fileOf, fileLength, withinLimits, wordsAt, numbersOf, readAnswer, readContents, sectionsOf}
 use Rattle.runfile.specs.Writing.{writeAnswer, written}
-use Rattle.runfile.specs.Facts.{Below, CountsKept, RulesKept, Accepted, SixteenBits, FileOfSome}
-use Rattle.runfile.specs.WordLaws.{words-length, words-add, words-below, word-below, word-bytes, words-bytes, bytes-words}
-use Rattle.runfile.specs.FileLaws.{counts-facts, counts-kept, accepted, accepted-done, read-done, section-lengths, file-length, write-facts, write-done}
+use Rattle.runfile.specs.Facts.{Below, Accepted, SixteenBits, FileOfSome}
+use Rattle.runfile.specs.WordLaws.{words-length, words-add, words-below, word-below, word-bytes, below-none, below-cons, below-append, bytes-below, words-bytes, bytes-words}
+use Rattle.runfile.specs.FileLaws.{counts-facts, counts-kept, accepted, accepted-done, read-done, file-length, write-facts}
 
 -- ---- what is written is read back
 
@@ -90,6 +89,27 @@ module _ (c : Contents) where
     file-read =
         let done = accepted-done (fileOf c) file-accepted in
         (done, read-done (fileOf c) (ap isDone done) ∙ file-sections)
+
+    head-below : c .budget < 65536 → Below 65536 (headWords c)
+    unfolding withinLimits headWords
+    head-below h =
+        let counts = counts-facts _ _ _ within in
+        below-cons (omega arith)
+        (below-cons (omega arith)
+        (below-cons (omega arith)
+        (below-cons (omega arith)
+        (below-cons (omega arith)
+        (below-cons (omega arith)
+        (below-cons (omega arith)
+        (below-cons h (below-none (omega arith)))))))))
+
+    file-below : SixteenBits c → Below 256 (fileOf c)
+    unfolding fileOf
+    file-below s =
+        bytes-below words
+        (below-append (headWords c) _ (head-below (s .budget))
+        (below-append (c .program) _ (s .program)
+        (below-append (c .data-words) _ (s .data-words) (s .input))))
 
   -- Every file that the writer makes reads back to the same contents.
   pub written-read : (bytes : List ℕ) → writeAnswer c bytes ≡ Done → readContents (take (length (fileOf c)) (written c bytes)) ≡ c
@@ -176,7 +196,7 @@ module _ (bytes : List ℕ) where
     unfolding written writeAnswer
     read-written room h = simp (read-file, read-within, le-leb _ _ h) (refl, refl)
 
-  -- A file is accepted exactly when it is the file of some contents, within the limits, of 16-bit words.
+  -- Some bytes are accepted exactly when they are the file of some contents, within the limits, of 16-bit words.
   pub accepted-is-file : Below 256 bytes → readAnswer bytes ≡ Done → FileOfSome bytes
   accepted-is-file below done =
       record {
@@ -186,5 +206,7 @@ module _ (bytes : List ℕ) where
         same-bytes = read-file below done;
       }
 
-  pub file-is-accepted : FileOfSome bytes → readAnswer bytes ≡ Done
-  file-is-accepted f = rw (← f .same-bytes) (file-read (f .contents) (f .within) .0)
+  pub file-is-accepted : FileOfSome bytes → (Below 256 bytes) × (readAnswer bytes ≡ Done)
+  file-is-accepted f =
+      rw (← f .same-bytes)
+      (file-below (f .contents) (f .within) (f .sixteen-bits), file-read (f .contents) (f .within) .0)

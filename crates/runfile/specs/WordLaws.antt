@@ -4,7 +4,7 @@ use mathlib.Core.List.{List, [], _∷_, _++_, append-assoc, append-nil}
 use Prim.Native.Nat.{ℕ, zero, suc, _+_, _-_, _*_, _/_, _%_, _≤_, _<_}
 use native.Mathlib.Omega.{arith}
 use native.Mathlib.Numerals.{add-one}
-use lib.ListN.{length, take, drop, getD, set, replicate, length-replicate, replicate-append-replicate}
+use lib.ListN.{length, take, drop, getD, set, replicate, length-append, length-replicate, replicate-append-replicate}
 use lib.Seq.{sets, sets-eq, drop-cons, take-at, drop-at, drop-length}
 use Rattle.runfile.specs.Files.{bytesOf, wordAt, wordsAt}
 use Rattle.runfile.specs.SetUp.{memoryWith}
@@ -65,6 +65,11 @@ memory-filled bytes memory cleared after at count address size fits e f =
     let inside : address + length words ≤ 4096 = rw (words-length bytes at count) fits in
     rw (f, e, size) (sets-zeros address 4096 words inside)
 
+-- a memory keeps its 4,096 words
+pub memory-length : (address : ℕ) (words : List ℕ) → address + length words ≤ 4096 → length (memoryWith address words) ≡ 4096
+unfolding memoryWith
+memory-length address words h = simp (length-append, length-replicate) (omega arith)
+
 pub words-add : (bytes : List ℕ) (at m n : ℕ) → wordsAt bytes at (m + n) ≡ wordsAt bytes at m ++ wordsAt bytes (at + 2 * m) n
 unfolding wordsAt
 words-add bytes at zero n =
@@ -113,7 +118,7 @@ pub bytes-words : (bytes : List ℕ) → Below 256 bytes → (n at : ℕ) → at
 unfolding wordsAt bytesOf
 bytes-words bytes below zero at h = refl
 bytes-words bytes below (suc n) at h =
-    let small = below at in
+    let small = below .at at in
     let low : wordAt bytes at % 256 ≡ getD bytes at 0 = omega arith in
     let high : wordAt bytes at / 256 ≡ getD bytes (at + 1) 0 = omega arith in
     let twice : 2 * suc n ≡ suc (suc (2 * n)) = omega arith in
@@ -122,15 +127,36 @@ bytes-words bytes below (suc n) at h =
     let rest : at + 2 ≡ suc (suc at) = omega arith in
     rw (low, high, twice, drop-cons bytes at 0, drop-cons bytes (suc at) 0, bytes-words bytes below n (at + 2) (omega arith), rest, add-one)
 
--- a word made of two bytes is a 16-bit number
+-- ---- bounds
+
+pub below-none : {bound : ℕ} → 0 < bound → Below bound []
+below-none h = record { at = λ i. h }
+
+pub below-cons : {bound x : ℕ} {l : List ℕ} → x < bound → Below bound l → Below bound (x ∷ l)
+below-cons {bound} {x} {l} first rest = record { at = by }
+  where
+    by : (i : ℕ) → getD (x ∷ l) i 0 < bound
+    by zero = first
+    by (suc i) = rest .at i
+
+below-rest : {bound x : ℕ} {l : List ℕ} → Below bound (x ∷ l) → Below bound l
+below-rest h = record { at = λ i. h .at (suc i) }
+
+pub below-append : {bound : ℕ} (a b : List ℕ) → Below bound a → Below bound b → Below bound (a ++ b)
+below-append [] b ha hb = hb
+below-append (x ∷ a) b ha hb = below-cons (ha .at 0) (below-append a b (below-rest ha) hb)
+
+-- bytes of 16-bit words, and 16-bit words of bytes
+pub bytes-below : (words : List ℕ) → Below 65536 words → Below 256 (bytesOf words)
+unfolding bytesOf
+bytes-below [] h = below-none (omega arith)
+bytes-below (w ∷ words) h =
+    below-cons (omega arith) (below-cons (omega (arith, h .at 0)) (bytes-below words (below-rest h)))
+
 pub word-below : (bytes : List ℕ) → Below 256 bytes → (at : ℕ) → wordAt bytes at < 65536
-word-below bytes below at =
-    let low = below at in
-    let high = below (at + 1) in
-    omega arith
+word-below bytes below at = omega (arith, below .at at, below .at (at + 1))
 
 pub words-below : (bytes : List ℕ) → Below 256 bytes → (n at : ℕ) → Below 65536 (wordsAt bytes at n)
 unfolding wordsAt
-words-below bytes below zero at i = omega arith
-words-below bytes below (suc n) at zero = word-below bytes below at
-words-below bytes below (suc n) at (suc i) = words-below bytes below n (at + 2) i
+words-below bytes below zero at = below-none (omega arith)
+words-below bytes below (suc n) at = below-cons (word-below bytes below at) (words-below bytes below n (at + 2))

@@ -3,8 +3,10 @@ ghost use mathlib.Core.Path.{_≡_};
 ghost use Prim.Native.Nat.{_+_, _*_, _≤_};
 ghost use lib.ListN.{length, replicate};
 ghost use lib.Seq.{sets};
-ghost use Rattle.runfile.specs.Files.{wordsAt};
-ghost use Rattle.runfile.specs.SetUp.{lent, setUpAnswer, memoryWith, setUp};
+ghost use Rattle.runfile.specs.Files.{wordsAt, sectionsOf};
+ghost use Rattle.runfile.specs.SetUp.{lent, setUpAnswer, memoryWith, loaded, setUp};
+ghost use Rattle.runfile.specs.Facts.{SetUpDone};
+use crate::numbers;
 use crate::reading;
 use answers::Answer;
 use board::slices;
@@ -30,7 +32,7 @@ fn load_words(bytes: &[u8], at: usize, count: usize, words: &mut [u16], address:
 {
     let mut k: usize = 0;
     while k < count {
-        words[address + k] = reading::word_at(bytes, at + 2 * k);
+        words[address + k] = numbers::word_at(bytes, at + 2 * k);
         k += 1;
     }
 }
@@ -60,6 +62,23 @@ fn set_up_answer(bytes: &[u8], rom: &[u16], data: &[u16], input: &[u16]) -> Answ
     }
 }
 
+// The sections of an accepted file, into slices that fit it.
+fn load_file(bytes: &[u8], rom: &mut [u16], data: &mut [u16], input: &mut [u16])
+    requires { ⌜ SetUpDone (now bytes) (lent (now rom) (now «data») (now input)) ⌝ }
+    ensures { λ _. ⌜ lent (now (rom .exit)) (now («data» .exit)) (now (input .exit)) ≡ loaded (sectionsOf (now (bytes .entry))) ⌝ }
+{
+    let n = numbers::numbers_of(bytes);
+    let program_count = n.program_count as usize;
+    let program_offset = n.program_offset as usize;
+    let data_count = n.data_count as usize;
+    let data_offset = n.data_offset as usize;
+    let input_count = n.input_count as usize;
+    let input_offset = n.input_offset as usize;
+    fill_memory(bytes, program_offset, program_count, rom, 0);
+    fill_memory(bytes, data_offset, data_count, data, DATA_START);
+    load_words(bytes, input_offset, input_count, input, 0);
+}
+
 // Both memories and the input slice from a file. A refusal changes none of them.
 pub fn set_up(bytes: &[u8], rom: &mut [u16], data: &mut [u16], input: &mut [u16]) -> Answer
     ensures answered { λ r. ⌜ r ≡ setUpAnswer (now (bytes .entry)) (lent (now (rom .entry)) (now («data» .entry)) (now (input .entry))) ⌝ }
@@ -71,15 +90,6 @@ pub fn set_up(bytes: &[u8], rom: &mut [u16], data: &mut [u16], input: &mut [u16]
     if !answers::is_done(answer) {
         return answer;
     }
-    let n = reading::numbers_of(bytes);
-    let program_count = n.program_count as usize;
-    let program_offset = n.program_offset as usize;
-    let data_count = n.data_count as usize;
-    let data_offset = n.data_offset as usize;
-    let input_count = n.input_count as usize;
-    let input_offset = n.input_offset as usize;
-    fill_memory(bytes, program_offset, program_count, rom, 0);
-    fill_memory(bytes, data_offset, data_count, data, DATA_START);
-    load_words(bytes, input_offset, input_count, input, 0);
+    load_file(bytes, rom, data, input);
     answer
 }

@@ -7,11 +7,10 @@ ghost use lib.Seq.{sets};
 ghost use Rattle.runfile.specs.Files.{bytesOf, fileOf, fileLength};
 ghost use Rattle.runfile.specs.Writing.{contents, writeAnswer, written};
 ghost use Rattle.runfile.specs.Facts.{CountsKept};
-use crate::reading;
-use crate::reading::HEAD_BYTES;
+use crate::numbers;
+use crate::numbers::HEAD_BYTES;
+use crate::numbers::VERSION;
 use answers::Answer;
-
-const VERSION: u16 = 1;
 
 // How many bytes a file with these counts has.
 pub fn file_length(program_count: u16, data_count: u16, input_count: u16) -> usize
@@ -64,6 +63,25 @@ fn put_file(program: &[u16], data: &[u16], input: &[u16], budget: u16, bytes: &m
     put_words(bytes, input_offset, input);
 }
 
+// The file where it fits the lent bytes; 23 where it does not.
+fn write_within_limits(
+    program: &[u16],
+    data: &[u16],
+    input: &[u16],
+    budget: u16,
+    bytes: &mut [u8],
+) -> Answer
+    requires { ⌜ CountsKept (length (now program)) (length (now «data»)) (length (now input)) ⌝ }
+    ensures { λ r. ⌜ r ≡ writeAnswer (contents (now (program .entry)) (now («data» .entry)) (now (input .entry)) budget) (now (bytes .entry)) ⌝ }
+    ensures { λ _. ⌜ now (bytes .exit) ≡ written (contents (now (program .entry)) (now («data» .entry)) (now (input .entry)) budget) (now (bytes .entry)) ⌝ }
+{
+    if bytes.len() < file_length(program.len() as u16, data.len() as u16, input.len() as u16) {
+        return Answer::FileNoRoom;
+    }
+    put_file(program, data, input, budget, bytes);
+    Answer::Done
+}
+
 // Three word lists and a budget, as a file at the start of lent bytes: 22, then 23. A refusal puts down no byte.
 pub fn write_file(
     program: &[u16],
@@ -75,15 +93,8 @@ pub fn write_file(
     ensures answered { λ r. ⌜ r ≡ writeAnswer (contents (now (program .entry)) (now («data» .entry)) (now (input .entry)) budget) (now (bytes .entry)) ⌝ }
     ensures lent_bytes { λ _. ⌜ now (bytes .exit) ≡ written (contents (now (program .entry)) (now («data» .entry)) (now (input .entry)) budget) (now (bytes .entry)) ⌝ }
 {
-    let program_count = program.len();
-    let data_count = data.len();
-    let input_count = input.len();
-    if !reading::counts_kept(program_count, data_count, input_count) {
+    if !numbers::counts_kept(program.len(), data.len(), input.len()) {
         return Answer::FileRules;
     }
-    if bytes.len() < file_length(program_count as u16, data_count as u16, input_count as u16) {
-        return Answer::FileNoRoom;
-    }
-    put_file(program, data, input, budget, bytes);
-    Answer::Done
+    write_within_limits(program, data, input, budget, bytes)
 }

@@ -1,26 +1,17 @@
 use Rattle.runfile.specs.WordLaws.{memory-filled}
-use native.Mathlib.Omega.{arith}
 use borrow.Author.Needs.{needs}
 use Rattle.runfile.proofs.setting_up.fill_memory.Statement.{statement}
 use Rattle.runfile.proofs.setting_up.fill_memory.Tie as tie
-use Rattle.runfile.proofs.setting_up.fill_memory.Reads as reads
-use Rattle.runfile.proofs.setting_up.fill_memory.Lts as lts
-use Rattle.runfile.proofs.setting_up.clear.Reads as clear-reads
-use Rattle.runfile.proofs.setting_up.load_words.Reads as load-words-reads
 
--- src/setting_up.rt:43:5
 clear-requires : tie.Need-clear-requires
 clear-requires c κs = search needs
 
--- src/setting_up.rt:44:5
 load-words-requires : tie.Need-load-words-requires
 load-words-requires c κs = search needs
 
--- src/setting_up.rt:39:1
 same-length : tie.Need-same-length
 same-length c = search needs
 
--- src/setting_up.rt:39:1
 returns : tie.Need-returns
 returns c = memory-filled _ (c .before .before .before .before .before .before .before .before .before .before .args .memory .now) _ _ _ _ _ (c .before .before .before .before .before .before .before .before .before .before .pre .2) (c .before .before .before .before .before .before .before .before .before .before .pre .1) (c .before .before .before .before .before .before .clear .ensures) (c .before .before .load-words .ensures)
 

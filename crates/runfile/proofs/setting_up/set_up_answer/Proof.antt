@@ -1,50 +1,36 @@
 use Rattle.runfile.specs.FileLaws.{told}
-use mathlib.Core.Path.{refl, sym, ap, _∙_}
-use Rattle.runfile.specs.SetUp.{setUpAnswer, lentFit, loaded, memoryWith}
-use Rattle.runfile.specs.Files.{wordAt, wordsAt, numbersOf, countsKept, rulesKept, readAnswer, readContents, headOf, sectionsOf}
+use mathlib.Core.Path.{ap, _∙_}
+use Rattle.runfile.specs.SetUp.{setUpAnswer, lentFit}
+use Rattle.runfile.specs.Files.{headOf}
 use borrow.Author.Tests.{not-true, not-false}
 use Rattle.runfile.specs.declared.reading.Head.{Head}
 use borrow.Author.Needs.{needs}
 use Rattle.runfile.proofs.setting_up.set_up_answer.Statement.{statement}
 use Rattle.runfile.proofs.setting_up.set_up_answer.Tie as tie
-use Rattle.runfile.proofs.setting_up.set_up_answer.Reads as reads
-use Rattle.runfile.proofs.setting_up.set_up_answer.Lts as lts
-use Rattle.answers.proofs.is_done.Reads as is-done-reads
-use Rattle.board.proofs.slices.memories_fit.Reads as memories-fit-reads
-use Rattle.runfile.proofs.reading.head_of.Reads as head-of-reads
-use Rattle.runfile.proofs.reading.read_answer.Reads as read-answer-reads
 
--- src/setting_up.rt:51:9
 read-answer-requires : tie.Need-read-answer-requires
 read-answer-requires c κs = search needs
 
--- src/setting_up.rt:52:9
 is-done-requires : tie.Need-is-done-requires
 is-done-requires c κs = search needs
 
--- src/setting_up.rt:53:9
 returns : tie.Need-returns
 unfolding setUpAnswer lentFit headOf
 returns c = c .before .before .read-answer .ensures ∙ simp (told (c .before .before .read-answer .ensures) (c .before .is-done .ensures) (not-true _ (c .if1 .taken)))
 
--- src/setting_up.rt:55:9
 head-of-requires : tie.Need-head-of-requires
 head-of-requires c κs = search needs
 
--- src/setting_up.rt:56:8
 memories-fit-requires : tie.Need-memories-fit-requires
 memories-fit-requires c κs = search needs
 
--- src/setting_up.rt:56:58
 cast-if2 : tie.Need-cast-if2
 cast-if2 c = search needs
 
--- src/setting_up.rt:48:1
 returns-2 : tie.Need-returns-2
 unfolding setUpAnswer lentFit headOf
 returns-2 c = let e = ap (λ (h : Head). h .«input_count») (c .before .before .before .head-of .ensures) in simp (told (c .before .before .before .before .before .before .read-answer .ensures) (c .before .before .before .before .before .is-done .ensures) (not-false _ (c .before .before .before .before .if1 .left)), ← c .before .before .memories-fit .ensures, ← e, c .if2 .taken)
 
--- src/setting_up.rt:48:1
 returns-3 : tie.Need-returns-3
 unfolding setUpAnswer lentFit headOf
 returns-3 c = let e = ap (λ (h : Head). h .«input_count») (c .before .before .before .head-of .ensures) in simp (told (c .before .before .before .before .before .before .read-answer .ensures) (c .before .before .before .before .before .is-done .ensures) (not-false _ (c .before .before .before .before .if1 .left)), ← c .before .before .memories-fit .ensures, ← e, c .if2 .left)

@@ -4,79 +4,59 @@ use Rattle.runfile.specs.Files.{fileLength, headWords}
 use borrow.Author.Needs.{needs}
 use Rattle.runfile.proofs.writing.put_file.Statement.{statement}
 use Rattle.runfile.proofs.writing.put_file.Tie as tie
-use Rattle.runfile.proofs.writing.put_file.Reads as reads
-use Rattle.runfile.proofs.writing.put_file.Lts as lts
-use Rattle.runfile.proofs.writing.put_words.Reads as put-words-reads
 
--- src/writing.rt:49:36
 mul-data-offset : tie.Need-mul-data-offset
 mul-data-offset c = search needs
 
--- src/writing.rt:49:23
 add-data-offset : tie.Need-add-data-offset
 add-data-offset c = search needs
 
--- src/writing.rt:50:38
 mul-input-offset : tie.Need-mul-input-offset
 mul-input-offset c = search needs
 
--- src/writing.rt:50:24
 add-input-offset : tie.Need-add-input-offset
 add-input-offset c = search needs
 
--- src/writing.rt:53:9
 cast-t11 : tie.Need-cast-t11
 cast-t11 c = search needs
 
--- src/writing.rt:54:9
 cast-t12 : tie.Need-cast-t12
 cast-t12 c = search needs
 
--- src/writing.rt:55:9
 cast-t13 : tie.Need-cast-t13
 cast-t13 c = search needs
 
--- src/writing.rt:56:9
 cast-t14 : tie.Need-cast-t14
 cast-t14 c = search needs
 
--- src/writing.rt:57:9
 cast-t16 : tie.Need-cast-t16
 cast-t16 c = search needs
 
--- src/writing.rt:58:9
 cast-t17 : tie.Need-cast-t17
 cast-t17 c = search needs
 
--- src/writing.rt:61:25
 slice-aggregate-put-words : tie.Need-slice-aggregate-put-words
 slice-aggregate-put-words c = search needs
 
--- src/writing.rt:61:5
 put-words-requires : tie.Need-put-words-requires
 unfolding fileLength
 put-words-requires c κs = omega arith
 
--- src/writing.rt:62:5
 put-words-requires-2 : tie.Need-put-words-requires-2
 unfolding fileLength
 put-words-requires-2 c κs = omega arith
 
--- src/writing.rt:63:5
 put-words-requires-3 : tie.Need-put-words-requires-3
 unfolding fileLength
 put-words-requires-3 c κs = omega arith
 
--- src/writing.rt:64:5
 put-words-requires-4 : tie.Need-put-words-requires-4
 unfolding fileLength
 put-words-requires-4 c κs = omega arith
 
--- src/writing.rt:44:1
 same-length : tie.Need-same-length
 same-length c = search needs
 
--- src/writing.rt:44:1
 returns : tie.Need-returns
 unfolding headWords
 returns c = file-put _ _ _ _ _ _ (c .before .before .before .before .before .before .before .before .before .before .before .before .before .before .put-words .ensures) (c .before .before .before .before .before .before .before .before .before .before .put-words2 .ensures) (c .before .before .before .before .before .before .put-words3 .ensures) (c .before .before .put-words4 .ensures)

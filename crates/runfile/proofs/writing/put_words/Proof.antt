@@ -5,9 +5,6 @@ use Prim.Native.Nat.{_-_}
 use lib.ListN.{length}
 use Rattle.runfile.proofs.writing.put_words.Statement.{statement}
 use Rattle.runfile.proofs.writing.put_words.Tie as tie
-use Rattle.runfile.proofs.writing.put_words.Reads as reads
-use Rattle.runfile.proofs.writing.put_words.Lts as lts
-use Rattle.runfile.proofs.writing.put_word.Reads as put-word-reads
 
 abbrev Inv-loop : tie.InvT-loop
 Inv-loop bytes₀ at words k₀ bytes k = Put words at bytes₀ bytes k
@@ -15,47 +12,36 @@ Inv-loop bytes₀ at words k₀ bytes k = Put words at bytes₀ bytes k
 abbrev μ-loop : tie.MeasureT-loop
 μ-loop bytes₀ at words k₀ bytes k = length words - k
 
--- src/writing.rt:37:5
 loop-holds : tie.Need-loop-holds Inv-loop μ-loop
 loop-holds c = put-none _ _ _
 
--- src/writing.rt:38:30
 mul-put-word : tie.Need-mul-put-word Inv-loop μ-loop
 mul-put-word c = search needs
 
--- src/writing.rt:38:25
 add-put-word : tie.Need-add-put-word Inv-loop μ-loop
 add-put-word c = search needs
 
--- src/writing.rt:38:37
 mul-put-word-2 : tie.Need-mul-put-word-2 Inv-loop μ-loop
 mul-put-word-2 c = search needs
 
--- src/writing.rt:38:37
 shared-slice-read-put-word : tie.Need-shared-slice-read-put-word Inv-loop μ-loop
 shared-slice-read-put-word c = search needs
 
--- src/writing.rt:38:9
 put-word-requires : tie.Need-put-word-requires Inv-loop μ-loop
 put-word-requires c κs = omega (arith, put-length (c .before .before .before .loop .inv))
 
--- src/writing.rt:39:9
 add-k : tie.Need-add-k Inv-loop μ-loop
 add-k c = search needs
 
--- src/writing.rt:37:5
 loop-less : tie.Need-loop-less Inv-loop μ-loop
 loop-less c = search needs
 
--- src/writing.rt:37:5
 loop-again : tie.Need-loop-again Inv-loop μ-loop
 loop-again c = put-more (c .before .before .before .before .before .before .loop .inv) _ (c .before .before .before .before .before .loop-test .taken) (c .before .before .put-word .ensures)
 
--- src/writing.rt:32:1
 same-length : tie.Need-same-length Inv-loop μ-loop
 same-length c = put-length (c .before .loop .inv)
 
--- src/writing.rt:32:1
 returns : tie.Need-returns Inv-loop μ-loop
 returns c = put-all (c .before .loop .inv) (c .loop-test .left)
 

@@ -2,24 +2,18 @@ use native.Mathlib.Omega.{arith}
 use lib.ListN.{List·getD-eq-default}
 use mathlib.Core.Path.{refl, sym}
 use borrow.Author.Needs.{needs}
-use Rattle.runfile.proofs.reading.byte_at.Statement.{statement}
-use Rattle.runfile.proofs.reading.byte_at.Tie as tie
-use Rattle.runfile.proofs.reading.byte_at.Reads as reads
-use Rattle.runfile.proofs.reading.byte_at.Lts as lts
+use Rattle.runfile.proofs.numbers.byte_at.Statement.{statement}
+use Rattle.runfile.proofs.numbers.byte_at.Tie as tie
 
--- src/reading.rt:43:9
 shared-slice-read-result : tie.Need-shared-slice-read-result
 shared-slice-read-result c = search needs
 
--- src/reading.rt:43:9
 cast-result : tie.Need-cast-result
 cast-result c = omega (arith, c .shared-slice-known .given (c .before .before .args .at))
 
--- src/reading.rt:39:1
 returns : tie.Need-returns
 returns c = (refl, omega (arith, c .shared-slice-known .given (c .before .before .args .at)))
 
--- src/reading.rt:39:1
 returns-2 : tie.Need-returns-2
 returns-2 c = (sym (List·getD-eq-default (c .before .args .bytes .now) 0 (c .if1 .left)), omega arith)
 

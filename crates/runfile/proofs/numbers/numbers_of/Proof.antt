@@ -1,44 +1,32 @@
-use Rattle.runfile.specs.Files.{wordAt, wordsAt, numbersOf, countsKept, rulesKept, readAnswer, readContents, headOf, sectionsOf}
+use Rattle.runfile.specs.Files.{numbersOf}
 use borrow.Author.Needs.{needs}
-use Rattle.runfile.proofs.reading.numbers_of.Statement.{statement}
-use Rattle.runfile.proofs.reading.numbers_of.Tie as tie
-use Rattle.runfile.proofs.reading.numbers_of.Reads as reads
-use Rattle.runfile.proofs.reading.numbers_of.Lts as lts
-use Rattle.runfile.proofs.reading.word_at.Reads as word-at-reads
+use Rattle.runfile.proofs.numbers.numbers_of.Statement.{statement}
+use Rattle.runfile.proofs.numbers.numbers_of.Tie as tie
 
--- src/reading.rt:66:18
 word-at-requires : tie.Need-word-at-requires
 word-at-requires c κs = search needs
 
--- src/reading.rt:67:24
 word-at-requires-2 : tie.Need-word-at-requires-2
 word-at-requires-2 c κs = search needs
 
--- src/reading.rt:68:25
 word-at-requires-3 : tie.Need-word-at-requires-3
 word-at-requires-3 c κs = search needs
 
--- src/reading.rt:69:21
 word-at-requires-4 : tie.Need-word-at-requires-4
 word-at-requires-4 c κs = search needs
 
--- src/reading.rt:70:22
 word-at-requires-5 : tie.Need-word-at-requires-5
 word-at-requires-5 c κs = search needs
 
--- src/reading.rt:71:22
 word-at-requires-6 : tie.Need-word-at-requires-6
 word-at-requires-6 c κs = search needs
 
--- src/reading.rt:72:23
 word-at-requires-7 : tie.Need-word-at-requires-7
 word-at-requires-7 c κs = search needs
 
--- src/reading.rt:73:17
 word-at-requires-8 : tie.Need-word-at-requires-8
 word-at-requires-8 c κs = search needs
 
--- src/reading.rt:62:1
 returns : tie.Need-returns
 unfolding numbersOf
 returns c = rw (c .word-at8 .ensures, c .before .word-at7 .ensures, c .before .before .word-at6 .ensures, c .before .before .before .word-at5 .ensures, c .before .before .before .before .word-at4 .ensures, c .before .before .before .before .before .word-at3 .ensures, c .before .before .before .before .before .before .word-at2 .ensures, c .before .before .before .before .before .before .before .word-at .ensures)
