@@ -10,28 +10,28 @@ use lib.Seq.{sets, length-sets, take-suc, take-length, drop-length, length-take-
 use Rattle.runfile.specs.Files.{bytesOf, wordAt, wordsAt}
 use Rattle.runfile.specs.WordLaws.{sets-append, words-length, words-add, bytes-length, bytes-append}
 
--- clear: the first k words are 0
-pub record Cleared (words₀ words : List ℕ) (k : ℕ) : Type 0 where
-  pub reached : k ≤ length words₀
-  pub so-far : words ≡ replicate k 0 ++ drop k words₀
+-- clear: the words before an address are 0
+pub record Cleared (memory₀ memory : List ℕ) (address : ℕ) : Type 0 where
+  pub reached : address ≤ length memory₀
+  pub so-far : memory ≡ replicate address 0 ++ drop address memory₀
 
-pub cleared-none : (words₀ : List ℕ) → Cleared words₀ words₀ 0
-cleared-none words₀ = record { reached = omega arith; so-far = refl }
+pub cleared-none : (memory₀ : List ℕ) → Cleared memory₀ memory₀ 0
+cleared-none memory₀ = record { reached = omega arith; so-far = refl }
 
-module _ {words₀ words : List ℕ} {k : ℕ} (l : Cleared words₀ words k) where
-  pub cleared-length : length words ≡ length words₀
+module _ {memory₀ memory : List ℕ} {address : ℕ} (l : Cleared memory₀ memory address) where
+  pub cleared-length : length memory ≡ length memory₀
   cleared-length =
-      ap length (l .so-far) ∙ length-append (replicate k 0) (drop k words₀) ∙ rw (length-replicate, length-drop) (omega arith)
+      ap length (l .so-far) ∙ length-append (replicate address 0) (drop address memory₀) ∙ rw (length-replicate, length-drop) (omega arith)
 
-  pub cleared-more : k < length words → Cleared words₀ (set words k 0) (k + 1)
+  pub cleared-more : address < length memory → Cleared memory₀ (set memory address 0) (address + 1)
   cleared-more h =
-      let inside : k < length words₀ = omega (arith, cleared-length) in
-      record { reached = omega arith; so-far = rw (l .so-far) (fill-more k 0 words₀ inside) }
+      let inside : address < length memory₀ = omega (arith, cleared-length) in
+      record { reached = omega arith; so-far = rw (l .so-far) (fill-more address 0 memory₀ inside) }
 
-  pub cleared-all : length words ≤ k → words ≡ replicate (length words₀) 0
+  pub cleared-all : length memory ≤ address → memory ≡ replicate (length memory₀) 0
   cleared-all h =
-      let e : k ≡ length words₀ = omega (arith, cleared-length) in
-      l .so-far ∙ rw (e, drop-length) (append-nil (replicate (length words₀) 0))
+      let e : address ≡ length memory₀ = omega (arith, cleared-length) in
+      l .so-far ∙ rw (e, drop-length) (append-nil (replicate (length memory₀) 0))
 
 -- load_words: the first k words of the run are stored
 pub record Loaded (bytes : List ℕ) (at count address : ℕ) (words₀ words : List ℕ) (k : ℕ) : Type 0 where

@@ -15,13 +15,13 @@ use board::slices;
 const DATA_START: usize = 0x400;
 
 // Every word becomes 0.
-fn clear(words: &mut [u16])
-    ensures { λ _. ⌜ now (words .exit) ≡ replicate (length (now (words .entry))) 0 ⌝ }
+fn clear(memory: &mut [u16])
+    ensures { λ _. ⌜ now (memory .exit) ≡ replicate (length (now (memory .entry))) 0 ⌝ }
 {
-    let mut k: usize = 0;
-    while k < words.len() {
-        words[k] = 0;
-        k += 1;
+    let mut address: usize = 0;
+    while address < memory.len() {
+        memory[address] = 0;
+        address += 1;
     }
 }
 

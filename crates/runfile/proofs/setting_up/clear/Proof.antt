@@ -7,22 +7,22 @@ use Rattle.runfile.proofs.setting_up.clear.Statement.{statement}
 use Rattle.runfile.proofs.setting_up.clear.Tie as tie
 
 abbrev Inv-loop : tie.InvT-loop
-Inv-loop words₀ k₀ words k = Cleared words₀ words k
+Inv-loop memory₀ address₀ memory address = Cleared memory₀ memory address
 
 abbrev μ-loop : tie.MeasureT-loop
-μ-loop words₀ k₀ words k = length words₀ - k
+μ-loop memory₀ address₀ memory address = length memory₀ - address
 
 loop-holds : tie.Need-loop-holds Inv-loop μ-loop
 loop-holds c = cleared-none _
 
-mul-words : tie.Need-mul-words Inv-loop μ-loop
-mul-words c = search needs
+mul-memory : tie.Need-mul-memory Inv-loop μ-loop
+mul-memory c = search needs
 
-slice-write-words : tie.Need-slice-write-words Inv-loop μ-loop
-slice-write-words c = search needs
+slice-write-memory : tie.Need-slice-write-memory Inv-loop μ-loop
+slice-write-memory c = search needs
 
-add-k : tie.Need-add-k Inv-loop μ-loop
-add-k c = omega (arith, cleared-length (c .before .loop .inv))
+add-address : tie.Need-add-address Inv-loop μ-loop
+add-address c = omega (arith, cleared-length (c .before .loop .inv))
 
 loop-less : tie.Need-loop-less Inv-loop μ-loop
 loop-less c = omega (arith, cleared-length (c .before .loop .inv))
@@ -43,9 +43,9 @@ clear-spec =
     Inv-loop
     μ-loop
     loop-holds
-    mul-words
-    slice-write-words
-    add-k
+    mul-memory
+    slice-write-memory
+    add-address
     loop-less
     loop-again
     same-length

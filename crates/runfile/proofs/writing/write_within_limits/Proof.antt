@@ -1,3 +1,4 @@
+use native.Mathlib.Omega.{arith}
 use Rattle.runfile.specs.FileLaws.{counts-kept, file-length, write-no-room, write-done}
 use Rattle.runfile.specs.Files.{withinLimits}
 use borrow.Author.Needs.{needs}
@@ -18,17 +19,17 @@ file-length-requires c κs = search needs
 
 returns : tie.Need-returns
 unfolding withinLimits
-returns c = write-no-room _ _ (counts-kept _ _ _ (c .before .before .before .before .before .before .pre)) (rw (file-length, ← c .before .file-length .ensures) (c .if1 .taken))
+returns c = write-no-room _ _ (counts-kept _ _ _ (c .before .before .before .before .before .before .pre)) (rw file-length (omega arith))
 
 put-file-requires : tie.Need-put-file-requires
-put-file-requires c κs = (c .before .before .before .before .before .before .before .pre, rw (← c .before .before .file-length .ensures) (c .before .if1 .left))
+put-file-requires c κs = (c .before .before .before .before .before .before .before .pre, omega arith)
 
 same-length : tie.Need-same-length
 same-length c = search needs
 
 returns-2 : tie.Need-returns-2
 unfolding withinLimits
-returns-2 c = write-done _ _ _ (counts-kept _ _ _ (c .before .before .before .before .before .before .before .before .before .before .pre)) (rw (file-length, ← c .before .before .before .before .before .file-length .ensures) (c .before .before .before .before .if1 .left)) (c .before .before .put-file .ensures)
+returns-2 c = write-done _ _ _ (counts-kept _ _ _ (c .before .before .before .before .before .before .before .before .before .before .pre)) (rw file-length (omega arith)) (c .before .before .put-file .ensures)
 
 pub write-within-limits-spec : {M : Type 1} → statement M
 write-within-limits-spec =
