@@ -112,11 +112,12 @@ module _ (c : Contents) where
         (below-append (c .data-words) _ (s .data-words) (s .input))))
 
   -- Every file that the writer makes reads back to the same contents.
-  pub written-read : (bytes : List ℕ) → writeAnswer c bytes ≡ Done → readContents (take (length (fileOf c)) (written c bytes)) ≡ c
+  pub written-read : (bytes : List ℕ) → writeAnswer c bytes ≡ Done
+      → (readAnswer (take (length (fileOf c)) (written c bytes)) ≡ Done) × (readContents (take (length (fileOf c)) (written c bytes)) ≡ c)
   unfolding written
   written-read bytes h =
       let w = write-facts c bytes h in
-      rw (h, take-at (fileOf c) (drop (length (fileOf c)) bytes) (length (fileOf c)) refl) (file-read (w .0) .1)
+      rw (h, take-at (fileOf c) (drop (length (fileOf c)) bytes) (length (fileOf c)) refl) (file-read (w .0))
 
 -- No two contents within the limits have the same file.
 pub file-injective : (c d : Contents) → withinLimits c ≡ true → withinLimits d ≡ true → fileOf c ≡ fileOf d → c ≡ d

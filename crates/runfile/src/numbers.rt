@@ -37,7 +37,7 @@ fn byte_at(bytes: &[u8], at: usize) -> u16
     }
 }
 
-// The little-endian word at a place.
+// The little-endian word at a place; a byte that is not there counts as 0.
 pub fn word_at(bytes: &[u8], at: usize) -> u16
     ensures { λ r. ⌜ r ≡ wordAt (now (bytes .entry)) at ⌝ }
 {

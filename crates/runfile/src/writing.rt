@@ -28,6 +28,7 @@ fn put_word(bytes: &mut [u8], at: usize, word: u16)
     bytes[at + 1] = (word / 256) as u8;
 }
 
+// A run of words, from a place on.
 fn put_words(bytes: &mut [u8], at: usize, words: &[u16])
     requires { ⌜ at + 2 * length (now words) ≤ length (now bytes) ⌝ }
     ensures { λ _. ⌜ now (bytes .exit) ≡ sets (now (bytes .entry)) at (bytesOf (now (words .entry))) ⌝ }
