@@ -1,3 +1,4 @@
 pub mod Stacking
 pub mod Passing
 pub mod Passes
+pub mod Demand

@@ -31,7 +31,8 @@ use Rattle.rules.specs.Rules.{ruleOf}
 use Rattle.board.specs.Regions.{inRom, inProgramB0, moveAllowed}
 use Rattle.board.specs.Windows.{windowOf, programWord}
 use Rattle.board.specs.WindowLaws.{rom-word, b0-word}
-use Rattle.plans.specs.Pass.{readWord, wordsRead, effectOf, writeOf, passedMachine, passedWrite, performed, dataAfter}
+use Rattle.plans.specs.declared.Write.the-variants as Write
+use Rattle.plans.specs.Pass.{readWord, wordsRead, effectOf, writeOf, passedMachine, passedWrite, performed, dataAfter, outputAfter}
 use Rattle.emulator.specs.World.{World}
 use Rattle.emulator.specs.Table.{decodedAt, secondWord}
 use Rattle.emulator.specs.Step.{stored, stepOf, runOf}
@@ -110,3 +111,117 @@ module _ (rom : List ℕ) (w : World) (n : Machine) (a : Alike (w .m) n) (word t
         repeats-on = λ k e. let g = again (MAC word table at n) 2 k (a .rptc ∙ e) in (g .0, g .1 ∙ a .pc);
         ends = λ e. goes-past (MAC word table at n) 2 (a .rptc ∙ e) ∙ ap (λ (p : ℕ). wrappedSum p 2) (a .pc);
       }
+
+-- what a data move leaves of the data, whether it is made or not
+module _ (rom : List ℕ) (cnf a word : ℕ) (d : List ℕ) (b : word < 2 ^ 16) where
+  record Moved (e : List ℕ) : Type 0 where
+    program : (x : ℕ) → programWord cnf x rom e ≡ programWord cnf x rom d
+    sized : Sized d → Sized e
+
+  moved-by : (t : Bool) → moveAllowed cnf a ≡ t → Moved (dataAfter (cond t (Write.Data (a + 1) word) Write.Nothing) d)
+  unfolding dataAfter
+  moved-by true e = record { program = move-keeps cnf a word rom d e; sized = λ s. set-sized d (a + 1) word s b }
+  moved-by false e = record { program = λ x. refl; sized = λ s. s }
+
+module _ (rom input : List ℕ) (w : World) (data-sized : Sized (w .«data»)) where
+  goes : (i : Instruction) → Accumulates i
+      → Went rom w (stored (performed i (secondWord i rom (w .«data») (w .m)) rom (w .«data») input (w .m)) w) (pairFor (Base i) rom input w)
+  unfolding stored performed passedMachine passedWrite effectOf traitsOf multiplierTraits ruleOf multiplierRule MACD writeOf dataAfter outputAfter wordsRead readWord pairFor
+  goes _ (by-mac a) =
+      went rom w (addressed (At a) (w .m)) (operand-alike (At a) (w .m)) _ _ _ (w .«data») _ (λ x. refl) (λ s. s)
+  goes _ (by-macd a) =
+      let word = getD (w .«data») (addressOf (At a) (w .m)) 0 in
+      let v = moved-by rom (w .m .cnf) (addressOf (At a) (w .m)) word (w .«data») (data-sized .bits (addressOf (At a) (w .m))) (moveAllowed (w .m .cnf) (addressOf (At a) (w .m))) refl in
+      went rom w (addressed (At a) (w .m)) (operand-alike (At a) (w .m)) word _ _ _ _ (v .program) (v .sized)
+
+  pub goes-on : (i : Instruction) → Accumulates i → decodedAt rom (w .«data») (w .m) ≡ Base i → isDone (stepOf rom input w .answer) ≡ true
+      → Went rom w (stepOf rom input w .world) (pairAt rom input w)
+  unfolding pairAt
+  goes-on i acc is done = rw (step-does rom input w i is done, is) (goes i acc)
+
+  -- the words of a pass have 16 bits
+  pair-sized : (i : Instruction) → Accumulates i → Sized rom → (pairFor (Base i) rom input w .dataWord < 2 ^ 16) × (pairFor (Base i) rom input w .programWord < 2 ^ 16)
+  unfolding pairFor wordsRead readWord traitsOf multiplierTraits
+  pair-sized _ (by-mac a) r = (data-sized .bits _, program-sized _ _ rom (w .«data») r data-sized)
+  pair-sized _ (by-macd a) r = (data-sized .bits _, program-sized _ _ rom (w .«data») r data-sized)
+
+  pub read-sized : (i : Instruction) → Accumulates i → decodedAt rom (w .«data») (w .m) ≡ Base i → Sized rom → (pairAt rom input w .dataWord < 2 ^ 16) × (pairAt rom input w .programWord < 2 ^ 16)
+  unfolding pairAt
+  read-sized i acc is r = rw is (pair-sized i acc r)
+
+-- k steps and then j
+unfoldable pub plus : ℕ → ℕ → ℕ
+plus zero j = j
+plus (suc k) j = suc (plus k j)
+
+pub plus-is : (k j : ℕ) → plus k j ≡ k + j
+unfolding plus
+plus-is zero j = omega arith
+plus-is (suc k) j = omega (arith, plus-is k j)
+
+-- ---- the passes of one repeat, with k to go after this one and j steps after them
+pub record Passed (rom input : List ℕ) (k j : ℕ) (w v : World) : Type 0 where
+  pub accumulation : accumulationOf (v .m) ≡ passed (w .m .pm) (w .m .ovm) (pairsRead rom input (suc k) w) (accumulationOf (w .m))
+  pub ovm : v .m .ovm ≡ w .m .ovm
+  pub pm : v .m .pm ≡ w .m .pm
+  pub cnf : v .m .cnf ≡ w .m .cnf
+  pub pc : v .m .pc ≡ wrappedSum (w .m .pc) 2
+  pub program : (x : ℕ) → programWord (w .m .cnf) x rom (v .«data») ≡ programWord (w .m .cnf) x rom (w .«data»)
+  pub words : Words (pairsRead rom input (suc k) w)
+  pub rest-done : isDone (runOf rom input j v .answer) ≡ true
+  pub same-end : runOf rom input (plus (suc k) j) w .world ≡ runOf rom input j v .world
+
+-- the world after n steps
+unfoldable pub after : List ℕ → List ℕ → ℕ → World → World
+after rom input zero w = w
+after rom input (suc n) w = after rom input n (stepOf rom input w .world)
+
+-- the next pass meets the same instruction
+again-there : (rom : List ℕ) (w v : World) (pair : Pair) (i : Instruction) → Went rom w v pair → decodedAt rom (w .«data») (w .m) ≡ Base i → v .m .pc ≡ w .m .pc → decodedAt rom (v .«data») (v .m) ≡ Base i
+unfolding decodedAt
+again-there rom w v pair i g is p = rw (g .cnf, p, g .program (w .m .pc)) is
+
+pub all-passed : (rom input : List ℕ) (i : Instruction) → Accumulates i → Sized rom → (k j : ℕ) (w : World) → Sized (w .«data»)
+    → decodedAt rom (w .«data») (w .m) ≡ Base i → w .m .rptc ≡ k → isDone (runOf rom input (plus (suc k) j) w .answer) ≡ true
+    → Passed rom input k j w (after rom input (suc k) w)
+unfolding plus after pairsRead passed Words Every
+all-passed rom input i acc r zero j w s is e done =
+    let o = runs-on rom input j w done in
+    let g = goes-on rom input w s i acc is (o .step-done) in
+    record {
+      accumulation = g .accumulation;
+      ovm = g .ovm;
+      pm = g .pm;
+      cnf = g .cnf;
+      pc = g .ends e;
+      program = g .program;
+      words = (read-sized rom input w s i acc is r, tt);
+      rest-done = o .rest-done;
+      same-end = o .same-end;
+    }
+all-passed rom input i acc r (suc k) j w s is e done =
+    let o = runs-on rom input (plus (suc k) j) w done in
+    let g = goes-on rom input w s i acc is (o .step-done) in
+    let h = g .repeats-on k e in
+    let same = again-there rom w (stepOf rom input w .world) (pairAt rom input w) i g is (h .1) in
+    let ih = all-passed rom input i acc r k j (stepOf rom input w .world) (g .sized s) same (h .0) (o .rest-done) in
+    record {
+      accumulation = ih .accumulation ∙ by-cells rom input k w g;
+      ovm = ih .ovm ∙ g .ovm;
+      pm = ih .pm ∙ g .pm;
+      cnf = ih .cnf ∙ g .cnf;
+      pc = ih .pc ∙ ap (λ (p : ℕ). wrappedSum p 2) (h .1);
+      program = λ x. by-cnf rom x w (stepOf rom input w .world) (after rom input (suc k) (stepOf rom input w .world)) (g .cnf) (ih .program x) ∙ g .program x;
+      words = (read-sized rom input w s i acc is r, ih .words);
+      rest-done = ih .rest-done;
+      same-end = o .same-end ∙ ih .same-end;
+    }
+  where
+    by-cells : (rom input : List ℕ) (k : ℕ) (w : World) → Went rom w (stepOf rom input w .world) (pairAt rom input w)
+        → passed (stepOf rom input w .world .m .pm) (stepOf rom input w .world .m .ovm) (pairsRead rom input (suc k) (stepOf rom input w .world)) (accumulationOf (stepOf rom input w .world .m))
+        ≡ passed (w .m .pm) (w .m .ovm) (pairsRead rom input (suc k) (stepOf rom input w .world)) (accumulated (w .m .pm) (w .m .ovm) (pairAt rom input w) (accumulationOf (w .m)))
+    by-cells rom input k w g = rw (g .pm, g .ovm, g .accumulation)
+
+    by-cnf : (rom : List ℕ) (x : ℕ) (w v u : World) → v .m .cnf ≡ w .m .cnf → programWord (v .m .cnf) x rom (u .«data») ≡ programWord (v .m .cnf) x rom (v .«data»)
+        → programWord (w .m .cnf) x rom (u .«data») ≡ programWord (w .m .cnf) x rom (v .«data»)
+    by-cnf rom x w v u e h = rw e at h
