@@ -140,8 +140,9 @@ module _ (rom input : List ℕ) (w : World) (k : ℕ) (s : Stacks rom input w k)
   unfolding accumulationOf
   demand-128 h =
       let b = at-128 (words rom input w k) (w .m .ovm) (count ∙ h) fit in
-      let o = ap (λ (x : Accumulation). x .ov) comes-to in
-      (((λ e. b .0 .0 (sym o ∙ e)), (λ a. o ∙ b .0 .1 a)),
-      (λ none.
-      let c = b .1 none in
-      record { ov = o ∙ c .0; near = rw (ap (λ (x : Accumulation). x .acc) comes-to, h) (c .1) }))
+      let o = ap (λ (x : Accumulation). x .ov) comes-to in (
+        ((λ e. b .0 .0 (sym o ∙ e)), (λ a. o ∙ b .0 .1 a)),
+        (λ none.
+            let c = b .1 none in
+            record { ov = o ∙ c .0; near = rw (ap (λ (x : Accumulation). x .acc) comes-to, h) (c .1) }),
+      )

@@ -1,0 +1,35 @@
+-- All cases at once, computed from the emulator's definitions.
+use mathlib.Core.Path.{_≡_, refl}
+use mathlib.Core.List.{List, [], _∷_}
+use Prim.Native.Nat.{ℕ}
+use Rattle.words.specs.Word.{signed, low}
+use Rattle.words.specs.Sums.{holds, held, settled, carry, noBorrow, added, subtracted}
+use Rattle.words.specs.Products.{product, productWord, scaled, amountOf, shiftedProduct, productHigh, productLow}
+use Rattle.words.specs.Registers.{wrappedSum, wrappedDifference, reversed, reversedSum}
+use Rattle.machine.specs.Reset.{resetMachine}
+use Rattle.machine.specs.Range.{inRange}
+use Rattle.instructions.specs.Encoding.{lowFits, modificationOf, nextOf, indirectOf, addressOf}
+use Rattle.instructions.specs.Decode.{decodeOf}
+use Rattle.traits.specs.Pages.{traitsOf, accumulatorTraits, multiplierTraits, auxiliaryTraits}
+use Rattle.addressing.specs.Addressing.{moved, pointed, modified, addressed}
+use Rattle.addressing.specs.Addressing as addressing
+use Rattle.accumulator.specs.Pages.{ADDK, SUBK}
+use Rattle.accumulator.specs.Rule.{accumulatorRule}
+use Rattle.multiplier.specs.Pages.{PAC, APAC, SPAC, MPY, SQRA, SQRS, SPL, SPH, tableAddress}
+use Rattle.multiplier.specs.Rule.{multiplierRule}
+use Rattle.auxiliary.specs.Pages.{MAR}
+use Rattle.auxiliary.specs.Rule.{auxiliaryRule}
+use Rattle.rules.specs.Rules.{ruleOf}
+use Rattle.passes.specs.Passes.{followed, destination}
+use Rattle.board.specs.Regions.{dataRegion, dataPresent, inRom, inProgramB0, programPresent}
+use Rattle.board.specs.Slices.{memoriesFit, portFits, portSpent, slicesFit}
+use Rattle.board.specs.Windows.{windowOf, programWord}
+use Rattle.plans.specs.Rows.{firstGiven}
+use Rattle.plans.specs.Pass.{accesses, wrongPort, sends, addressAbove, dataAbsent, tableAbsent, outputFull, readWord, wordsRead, effectOf, writeOf, passedMachine, passedWrite, performed, dataAfter, outputAfter}
+use Rattle.emulator.specs.Table.{decodedAt, secondAddress, secondWord, notRepeatable, secondAbsent, tableFor, refusalOf}
+use Rattle.emulator.specs.Step.{pagePlan, planOf, stored, stepOf}
+use Rattle.bench.specs.Cases.{cases, found, expected}
+
+pub bench : found cases ≡ expected cases
+unfolding signed low holds held settled carry noBorrow added subtracted product productWord scaled amountOf shiftedProduct productHigh productLow wrappedSum wrappedDifference reversed reversedSum resetMachine inRange lowFits modificationOf nextOf indirectOf addressOf decodeOf traitsOf accumulatorTraits multiplierTraits auxiliaryTraits moved pointed modified addressed addressing.addressOf ADDK SUBK accumulatorRule PAC APAC SPAC MPY SQRA SQRS SPL SPH tableAddress multiplierRule MAR auxiliaryRule ruleOf followed destination dataRegion dataPresent inRom inProgramB0 programPresent memoriesFit portFits portSpent slicesFit windowOf programWord firstGiven accesses wrongPort sends addressAbove dataAbsent tableAbsent outputFull readWord wordsRead effectOf writeOf passedMachine passedWrite performed dataAfter outputAfter decodedAt secondAddress secondWord notRepeatable secondAbsent tableFor refusalOf pagePlan planOf stored stepOf
+bench = refl

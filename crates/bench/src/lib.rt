@@ -1,0 +1,1 @@
+// The bench values of document 01 that are marked M.
