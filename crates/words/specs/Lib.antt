@@ -5,8 +5,6 @@ pub mod Products
 pub mod Shifts
 pub mod Logic
 pub mod Registers
--- bench values
-pub mod Bench
 -- laws
 pub mod Whole
 pub mod WordLaws
