@@ -185,7 +185,7 @@ static const struct row rows[] = {
 
 enum { ROWS = sizeof rows / sizeof rows[0] };
 
-/* The reserved modification 011 is in no encoding (G 1778, R1). */
+/* The reserved modification 011 is in no encoding (G 1760, R1). */
 static bool is_in(const struct row *row, unsigned word)
 {
     if ((word & row->mask) != row->bits)
@@ -474,7 +474,7 @@ static uint32_t reversed16(uint32_t word)
     return result;
 }
 
-/* Table 4-1 (G 1770); all sums modulo 65,536 (D01). */
+/* Table 4-1 (G 1753); all sums modulo 65,536 (D01). */
 static uint32_t modified(uint32_t ar, uint32_t ar0, uint32_t how)
 {
     switch (how) {
@@ -495,7 +495,7 @@ static uint32_t modified(uint32_t ar, uint32_t ar0, uint32_t how)
     }
 }
 
-/* The old register first, then ARP (G 1726; D01, last error). */
+/* The old register first, then ARP (G 1711; D01, last error). */
 static void modify_registers(struct plain_machine *m, uint32_t word)
 {
     uint32_t now = m->arp;
