@@ -1102,6 +1102,10 @@ static void rulings_arithmetic(void)
         sum_case("SFR logical", 0xCE19, 0x80000001, 0, c, 1, 0,
                  0x40000000, 0, 1);
         /* R21, and the extension and shift of D01 */
+        sum_case("SUB equal", 0x1000, 5, 5, c, 0, 1, 0, 0, 1);
+        sum_case("SUBS equal", 0x4500, 5, 5, c, 0, 1, 0, 0, 1);
+        sum_case("SUBH equal", 0x4400, 0x50000, 5, c, 0, 1, 0, 0, c);
+        sum_case("SUBK equal", 0xCD05, 5, 0, c, 0, 1, 0, 0, 1);
         sum_case("SUB -1", 0x1000, 0, 0xFFFF, c, 0, 1, 1, 0, 0);
         sum_case("SUB FFFFh", 0x1000, 0, 0xFFFF, c, 0, 0, 0xFFFF0001, 0, 0);
         sum_case("SUBS FFFFh", 0x4500, 0, 0xFFFF, c, 0, 1, 0xFFFF0001, 0, 0);
@@ -1341,7 +1345,7 @@ static void rulings_repeats(void)
     /* R31 and the dry port (D01). */
     fresh();
     input_len = 2; input[0] = 0x11; input[1] = 0x22;
-    m.ar[0] = 0x400; data[0x402] = 0x99;
+    m.ar[0] = 0x400; data[0x402] = 0x99; m.t = 0x77; m.acc = 0x88;
     rom[0] = 0xCB02; rom[1] = 0x80A0;
     expect("R31 IN", (uint64_t)run(4, &steps), 0);
     expect("R31 IN 0", data[0x400], 0x11);
@@ -1370,7 +1374,16 @@ static void rulings_repeats(void)
         expect("RPTK k PC", m.pc, 2);
         expect("RPTK k MID", m.mid, 0);
     }
-    /* RPT takes the low byte, G 6553; 0Ch makes 13 passes. */
+    /* RPT takes all eight low bits and no more (G 6553). */
+    for (unsigned k = 0; k < 256; k++) {
+        fresh();
+        m.dp = 6; data[0x300] = (uint16_t)(0x5A00 | k);
+        does("RPT k", 0x4B00);
+        expect("RPT k RPTC", m.rptc, k);
+        expect("RPT k PC", m.pc, 1);
+        expect("RPT k MID", m.mid, 0);
+    }
+    /* 0Ch makes 13 passes (G 6561). */
     fresh();
     m.dp = 31; data[4095] = 0xFF0C; m.acc = 0x12345678;
     rom[0] = 0x4B7F; rom[1] = 0xCE19;
@@ -1417,6 +1430,186 @@ static void rulings_repeats(void)
     does("POP", 0xCE1D);
     expect("POP ACC", m.acc, 9);
     expect_stack("POP", popped);
+}
+
+/* SOVM (G 7172), ROVM (R6), SSXM (G 7614), RSXM (G 6639), CNFD, CNFP. */
+static void modes(void)
+{
+    for (uint32_t before = 0; before <= 1; before++) {
+        fresh();
+        m.ovm = m.sxm = m.cnf = before;
+        does("ROVM", 0xCE02);
+        expect("ROVM", m.ovm, 0);
+        does("SOVM", 0xCE03);
+        expect("SOVM", m.ovm, 1);
+        does("ROVM again", 0xCE02);
+        expect("ROVM again", m.ovm, 0);
+        does("CNFD", 0xCE04);
+        expect("CNFD", m.cnf, 0);
+        does("CNFP", 0xCE05);
+        expect("CNFP", m.cnf, 1);
+        does("CNFD again", 0xCE04);
+        expect("CNFD again", m.cnf, 0);
+        does("RSXM", 0xCE06);
+        expect("RSXM", m.sxm, 0);
+        does("SSXM", 0xCE07);
+        expect("SSXM", m.sxm, 1);
+        does("RSXM again", 0xCE06);
+        expect("RSXM again", m.sxm, 0);
+    }
+}
+
+/* Whole fields: registers, pages and constants at their ends. */
+static void fields(void)
+{
+    fresh();
+    m.dp = 6; data[0x300] = 0xFFFF;
+    does("LDP FFFFh", 0x5200); /* nine bits, G 4682 */
+    expect("LDP FFFFh", m.dp, 0x1FF);
+    does("LDPK 511", 0xC9FF);
+    expect("LDPK 511", m.dp, 511);
+    does("LDPK 0", 0xC800);
+    expect("LDPK 0", m.dp, 0);
+
+    for (unsigned r = 0; r < 8; r++) {
+        fresh();
+        m.dp = 6; data[0x300] = 0xFFFF;
+        does("LAR", 0x3000 | r << 8);
+        for (unsigned i = 0; i < 8; i++)
+            expect("LAR registers", m.ar[i], i == r ? 0xFFFF : 0);
+        does("LARK", 0xC0FF | r << 8);
+        for (unsigned i = 0; i < 8; i++)
+            expect("LARK registers", m.ar[i], i == r ? 0xFF : 0);
+        m.ar[r] = 0x8421;
+        does("SAR", 0x7000 | r << 8);
+        expect("SAR register", data[0x300], 0x8421);
+        does("LARP", 0x5588 | r);
+        expect("LARP", m.arp, r);
+    }
+
+    fresh();
+    m.acc = 0xFFFF8765;
+    does("PUSH half", 0xCE1C);
+    expect("PUSH half", m.stack[0], 0x8765);
+    does("POP half", 0xCE1D);
+    expect("POP half", m.acc, 0x8765);
+
+    static const struct { uint32_t t, word, p; } mpyk[] = {
+        { 0x8000, 0xB000, 0x08000000 }, /* -32768 times -4096 */
+        { 0x8000, 0xAFFF, 0xF8008000 }, /* -32768 times 4095 */
+        { 0x7FFF, 0xB000, 0xF8001000 }, /* 32767 times -4096 */
+        { 0xFFFF, 0xBFFF, 0x00000001 }, /* -1 times -1 */
+    };
+    for (size_t i = 0; i < sizeof mpyk / sizeof mpyk[0]; i++) {
+        fresh();
+        m.t = mpyk[i].t;
+        does("MPYK ends", mpyk[i].word);
+        expect("MPYK ends", m.p, mpyk[i].p);
+    }
+}
+
+/* Every page that uses the product takes it shifted by PM (G 9785). */
+static void shifted_products(void)
+{
+    static const uint32_t shifted[4] = {
+        0x8000007F, 0x000000FE, 0x000007F0, 0xFE000001 };
+    for (uint32_t pm = 0; pm < 4; pm++) {
+        static const uint32_t adding[] = { 0x3D00, 0x3F00, 0x3A00, 0x3900,
+            0xCE15, 0x5D00, 0x5C00 };
+        for (size_t i = 0; i < sizeof adding / sizeof adding[0]; i++) {
+            fresh();
+            m.pm = pm; m.p = 0x8000007F; m.acc = 0x100; m.dp = 6;
+            does2("adds P", adding[i], 0x10);
+            expect("adds P", m.acc, 0x100 + shifted[pm]);
+            expect("adds P, C", m.c, 0);
+        }
+        static const uint32_t taking[] = { 0x5B00, 0x3B00, 0x5A00, 0xCE16 };
+        for (size_t i = 0; i < sizeof taking / sizeof taking[0]; i++) {
+            fresh();
+            m.pm = pm; m.p = 0x8000007F; m.acc = 0xFFFFFFFF; m.dp = 6;
+            does("takes P", taking[i]);
+            expect("takes P", m.acc, 0xFFFFFFFF - shifted[pm]);
+            expect("takes P, C", m.c, 1);
+        }
+        fresh();
+        m.pm = pm; m.p = 0x8000007F; m.dp = 6;
+        does("LTP", 0x3E00);
+        expect("LTP", m.acc, shifted[pm]);
+        does("SPH", 0x7D00);
+        expect("SPH", data[0x300], shifted[pm] >> 16);
+        does("SPL", 0x7C00);
+        expect("SPL", data[0x300], shifted[pm] & 0xFFFF);
+    }
+}
+
+/*
+ * Random worlds: a refused step changes nothing, a step that is done leaves
+ * every cell in its range and no absent data word changed (D01).
+ */
+static uint32_t random_bits(void)
+{
+    static uint64_t state = 1;
+    state = state * 6364136223846793005u + 1442695040888963407u;
+    return (uint32_t)(state >> 33);
+}
+
+static void random_worlds(void)
+{
+    static uint16_t before[sizeof data / sizeof data[0]];
+    static uint16_t output_before[sizeof output / sizeof output[0]];
+    unsigned long done = 0;
+    for (int world = 0; world < 2000; world++) {
+        fresh();
+        for (int i = 0; i < PLAIN_ROM_WORDS; i++) {
+            rom[i] = (uint16_t)random_bits();
+            data[i] = (uint16_t)random_bits();
+        }
+        for (int i = 0; i < 4; i++)
+            input[i] = (uint16_t)random_bits();
+        m.acc = random_bits() << 1 ^ random_bits();
+        m.p = random_bits() << 1 ^ random_bits();
+        m.t = random_bits() & 0xFFFF;
+        m.pc = random_bits() & 0xFFF;
+        m.pfc = random_bits() & 0xFFF;
+        for (int i = 0; i < 8; i++) {
+            m.ar[i] = random_bits() & 0xFFF;
+            m.stack[i] = random_bits() & 0xFFF;
+        }
+        m.arp = random_bits() & 7;
+        m.arb = random_bits() & 7;
+        m.dp = random_bits() & 31;
+        m.pm = random_bits() & 3;
+        m.ov = random_bits() & 1;
+        m.ovm = random_bits() & 1;
+        m.sxm = random_bits() & 1;
+        m.c = random_bits() & 1;
+        m.cnf = random_bits() & 1;
+        m.mid = random_bits() & 1;
+        for (int i = 0; i < 100; i++) {
+            struct plain_machine machine_before = m;
+            uint32_t steps;
+            memcpy(before, data, sizeof data);
+            memcpy(output_before, output, sizeof output);
+            if (step() == PLAIN_DONE) {
+                done++;
+                expect("random: in range", (uint64_t)run(0, &steps), 0);
+                for (uint32_t a = 0; a < 0x300; a++)
+                    if (before[a] != data[a])
+                        expect("random: absent word",
+                               there(machine_before.cnf, a), 1);
+                continue;
+            }
+            expect("random: refused, cells",
+                   (uint64_t)memcmp(&machine_before, &m, sizeof m), 0);
+            expect("random: refused, data",
+                   (uint64_t)memcmp(before, data, sizeof data), 0);
+            expect("random: refused, output", (uint64_t)memcmp(
+                output_before, output, sizeof output), 0);
+            m.pc = (m.pc + 1) & 0xFFF;
+            m.rptc = 0;
+        }
+    }
+    expect("random: many were done", done > 50000, 1);
 }
 
 static void reset(void)
@@ -1595,6 +1788,10 @@ int main(void)
     rulings_flags();
     rulings_registers();
     rulings_repeats();
+    modes();
+    fields();
+    shifted_products();
+    random_worlds();
     reset();
     files();
     printf("%lu checks, %lu failed\n", checks, failures);
