@@ -168,7 +168,7 @@ static void decode_ce(void)
     }
 }
 
-/* Table 4-4 (G 1960 on): the upper bytes of the base, written out again. */
+/* Table 4-4 (G 1959 on): the upper bytes of the base, written out again. */
 static void decode_table(void)
 {
     static const struct { uint8_t first, last; const char *name; } upper[] = {
@@ -346,7 +346,7 @@ static void bench(void)
     expect("direct, DP 0, offset 60h: ACC", m.acc, 0x1234);
 }
 
-/* Figure 3-9 (G 985 on): the carry, by ADDK 1 and SUBK 1. */
+/* Figure 3-9 (G 987 on): the carry, by ADDK 1 and SUBK 1. */
 static void carry_figure(void)
 {
     static const struct {
@@ -410,7 +410,7 @@ static void demand_3(void)
 
 static void guide_accumulator(void)
 {
-    fresh(); /* ADD, G 2347 */
+    fresh(); /* ADD, G 2344 */
     m.dp = 10; data[1281] = 8; m.acc = 2;
     does("ADD DAT1,3", 0x0301);
     expect("ADD ACC", m.acc, 0x42);
@@ -449,7 +449,7 @@ static void guide_accumulator(void)
 
 static void guide_registers(void)
 {
-    fresh(); /* ADRK, G 2656 */
+    fresh(); /* ADRK, G 2655 */
     m.arp = 5; m.ar[5] = 0x4321;
     does("ADRK 80h", 0x7E80);
     expect("ADRK AR5", m.ar[5], 0x43A1);
@@ -524,7 +524,7 @@ static void guide_branches(void)
         expect("BANZ PC", m.pc, banz[i].pc_after);
     }
 
-    /* The remarks of G 2817, 3112, 3156, 3401, 3699, 3787, 3831, 3875. */
+    /* The remarks of G 2819, 3112, 3156, 3401, 3699, 3787, 3831, 3875. */
     static const struct {
         uint32_t word, target, acc, ov;
         bool taken;
@@ -686,7 +686,7 @@ static void guide_multiplier(void)
     expect("RPTK PC", m.pc, 5);
 }
 
-/* The opcodes that section 4.1 works out (G 1686, 1810 to 1838). */
+/* The opcodes that section 4.1 works out (G 1699, 1803 to 1836). */
 static void guide_opcodes(void)
 {
     static const uint16_t adds[] = { 0x0509, 0x08A0, 0x0880, 0x0890, 0x08E0,
@@ -1284,7 +1284,7 @@ static void rulings_registers(void)
     does("ADRK over", 0x7E02);
     expect("ADRK over", m.ar[0], 1);
 
-    /* Reversed carry: half the size in AR0 visits 16 points (G 1737). */
+    /* Reversed carry: half the size in AR0 visits 16 points (G 1738). */
     static const uint32_t points[16] = {
         0, 8, 4, 12, 2, 10, 6, 14, 1, 9, 5, 13, 3, 11, 7, 15 };
     fresh();
