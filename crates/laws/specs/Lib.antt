@@ -1,0 +1,5 @@
+-- definitions
+pub mod Laws
+-- proofs
+pub mod Steps
+pub mod Runs
