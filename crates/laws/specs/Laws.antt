@@ -4,12 +4,21 @@ use mathlib.Core.Bool.{true, false}
 use mathlib.Core.List.{List, [], _∷_, _++_}
 use Prim.Native.Nat.{ℕ, zero, suc, _+_, _≤_, _<_}
 use lib.ListN.{length}
+use Rattle.words.specs.Registers.{wrappedSum}
+use Rattle.machine.specs.declared.Machine.{Machine}
+use Rattle.machine.specs.Cells.{withPc, withMid, withRptc}
+use Rattle.instructions.specs.declared.Instruction.{Instruction}
+use Rattle.instructions.specs.declared.Decoded.the-variants.{Base}
+use Rattle.traits.specs.Pages.{traitsOf}
+use Rattle.passes.specs.declared.Effect.{Effect}
 use Rattle.answers.specs.declared.Answer.{Answer}
 use Rattle.answers.specs.declared.Answer.the-variants.{Done}
 use Rattle.answers.specs.Numbers.{numberOf, isDone}
+use Rattle.plans.specs.declared.Write.{Write}
 use Rattle.plans.specs.Rows.{Row, row}
+use Rattle.plans.specs.Pass.{effectOf, passedWrite, dataAfter, outputAfter}
 use Rattle.emulator.specs.World.{World, RunOutcome}
-use Rattle.emulator.specs.Table.{decodedAt, tableFor, checksOf}
+use Rattle.emulator.specs.Table.{decodedAt, secondWord, tableFor, checksOf}
 use Rattle.emulator.specs.Step.{stepOf, runOf}
 
 -- ---- a refused step
@@ -87,3 +96,39 @@ pub record RunsAdd (rom input : List ℕ) (a b : ℕ) (w : World) : Type 0 where
   pub first-done : isDone (runOf rom input a w .answer) ≡ true
       → runOf rom input (a + b) w ≡ continued a (runOf rom input b (runOf rom input a w .world))
   pub first-refused : isDone (runOf rom input a w .answer) ≡ false → runOf rom input (a + b) w ≡ runOf rom input a w
+
+-- ---- a repeated instruction
+
+-- what the rule of an instruction makes of a world, and what it stores
+abbrev pub effectAt : List ℕ → List ℕ → World → Instruction → Effect
+effectAt rom input w i = effectOf i (secondWord i rom (w .«data») (w .m)) rom (w .«data») input (w .m)
+
+abbrev pub writeAt : List ℕ → List ℕ → World → Instruction → Write
+writeAt rom input w i = passedWrite i (secondWord i rom (w .«data») (w .m)) rom (w .«data») input (w .m)
+
+-- the world with another RPTC
+abbrev pub recounted : World → ℕ → World
+recounted w n = record { m = withRptc (w .m) n; «data» = w .«data»; output = w .output }
+
+-- what was worked: RPTC, MID and PC are left out
+abbrev pub workOf : World → World
+workOf w = record { m = withPc (withMid (withRptc (w .m) 0) 0) 0; «data» = w .«data»; output = w .output }
+
+-- a pass of a repeatable instruction
+pub record PassWorks (rom input : List ℕ) (w : World) (i : Instruction) : Type 0 where
+  -- "If RPTC is above 0 .. RPTC falls by 1, MID becomes 1 and PC stays"; every other cell is what the rule makes of it
+  pub goes-on : (n : ℕ) → w .m .rptc ≡ suc n → stepOf rom input w .world .m ≡ withMid (withRptc (withPc (effectAt rom input w i .m) (w .m .pc)) n) 1
+  -- "otherwise MID becomes 0 and PC moves past the instruction's words"
+  pub ends : w .m .rptc ≡ 0
+      → stepOf rom input w .world .m ≡ withPc (withMid (withRptc (effectAt rom input w i .m) 0) 0) (wrappedSum (w .m .pc) (traitsOf i .words))
+  -- the store is the rule's
+  pub stores-data : stepOf rom input w .world .«data» ≡ dataAfter (writeAt rom input w i) (w .«data»)
+  pub stores-output : stepOf rom input w .world .output ≡ outputAfter (writeAt rom input w i) (w .output)
+  -- whatever RPTC is, the pass is done, and works the same: none only counts
+  pub any-count : (n : ℕ) → n ≤ 255 → stepOf rom input (recounted w n) .answer ≡ Done
+  pub same-work : (n : ℕ) → n ≤ 255 → workOf (stepOf rom input (recounted w n) .world) ≡ workOf (stepOf rom input w .world)
+
+-- "a repeat that works in its first pass and only counts the rest" is ruled out
+abbrev pub EveryPassWorks : Type 0
+EveryPassWorks = (rom input : List ℕ) (w : World) (i : Instruction) → decodedAt rom (w .«data») (w .m) ≡ Base i → traitsOf i .repeatable ≡ true
+    → stepOf rom input w .answer ≡ Done → PassWorks rom input w i

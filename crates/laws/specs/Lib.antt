@@ -3,3 +3,4 @@ pub mod Laws
 -- proofs
 pub mod Steps
 pub mod Runs
+pub mod Repeats
