@@ -65,7 +65,7 @@ use Rattle.emulator.specs.World.{World}
 use Rattle.emulator.specs.Table.{decodedAt, secondAddress, secondWord, notRepeatable, secondAbsent, tableFor, refusalOf}
 use Rattle.emulator.specs.Step.{pagePlan, planOf, stored, stepOf}
 use Rattle.laws.specs.Laws.{rowsOf, NoneHolds, recounted, workOf, effectAt, writeAt, PassWorks, EveryPassWorks}
-use Rattle.laws.specs.Steps.{step-answer, row-given}
+use Rattle.laws.specs.Steps.{step-world, row-given}
 
 -- the machine with another RPTC and another PC
 abbrev placed : Machine → ℕ → ℕ → Machine
@@ -249,13 +249,6 @@ follows-work m n pc words = by (ltb 0 n) _ _
     by false k at = refl
 
 -- ---- the step
-
-step-world : (rom input : List ℕ) (w : World) (i : Instruction) → decodedAt rom (w .«data») (w .m) ≡ Base i → stepOf rom input w .answer ≡ Done
-    → stepOf rom input w .world ≡ stored (performed i (secondWord i rom (w .«data») (w .m)) rom (w .«data») input (w .m)) w
-unfolding stepOf planOf refusalOf pagePlan
-step-world rom input w i d e =
-    let f : isDone (firstGiven (rowsOf rom input w)) ≡ true = ap isDone (sym (step-answer rom input w) ∙ e) in
-    rw f (ap (λ (x : Decoded). stored (pagePlan x rom (w .«data») input (w .m)) w) d)
 
 never : (t : Bool) → t && false ≡ false
 never true = refl

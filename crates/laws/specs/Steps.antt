@@ -10,13 +10,14 @@ use Rattle.answers.specs.declared.Answer.{Answer}
 use Rattle.answers.specs.declared.Answer.the-variants.{Done}
 use Rattle.answers.specs.Numbers.{numberOf, isDone}
 use Rattle.answers.specs.NumberLaws.{done-is}
+use Rattle.instructions.specs.declared.Instruction.{Instruction}
 use Rattle.instructions.specs.declared.Decoded.{Decoded}
 use Rattle.instructions.specs.declared.Decoded.the-variants.{Base, Published, Nothing}
 use Rattle.plans.specs.declared.Plan.{Plan}
 use Rattle.plans.specs.Rows.{Row, row, firstGiven}
 use Rattle.plans.specs.Pass.{performed, refused, dataAfter, outputAfter}
 use Rattle.emulator.specs.World.{World}
-use Rattle.emulator.specs.Table.{decodedAt, tableFor, refusalOf, checksOf}
+use Rattle.emulator.specs.Table.{decodedAt, secondWord, tableFor, refusalOf, checksOf}
 use Rattle.emulator.specs.Step.{pagePlan, planOf, stored, stepOf}
 use Rattle.laws.specs.Laws.{RefusedUnchanged, AnswersOfAStep, rowsOf, NoneHolds, GivenBy, RowGiven}
 
@@ -46,6 +47,14 @@ unfolding stepOf planOf refusalOf stored dataAfter outputAfter
 refused-unchanged rom input w h =
     let e : isDone (firstGiven (rowsOf rom input w)) ≡ false = ap isDone (sym (step-answer rom input w)) ∙ h in
     rw e
+
+-- a step that is done is what the page's rule makes of the world
+pub step-world : (rom input : List ℕ) (w : World) (i : Instruction) → decodedAt rom (w .«data») (w .m) ≡ Base i → stepOf rom input w .answer ≡ Done
+    → stepOf rom input w .world ≡ stored (performed i (secondWord i rom (w .«data») (w .m)) rom (w .«data») input (w .m)) w
+unfolding stepOf planOf refusalOf pagePlan
+step-world rom input w i d e =
+    let f : isDone (firstGiven (rowsOf rom input w)) ≡ true = ap isDone (sym (step-answer rom input w) ∙ e) in
+    rw f (ap (λ (x : Decoded). stored (pagePlan x rom (w .«data») input (w .m)) w) d)
 
 -- ---- numbers
 

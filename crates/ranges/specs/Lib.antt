@@ -1,0 +1,8 @@
+-- definitions
+pub mod Ranges
+pub mod Fields
+-- proofs
+pub mod FieldLaws
+pub mod Cells
+pub mod Widths
+pub mod Rules
