@@ -12,6 +12,9 @@ use Rattle.instructions.specs.declared.Decoded.{Decoded}
 use Rattle.instructions.specs.Encoding.{Row, pick, has, means, first, addressOf, indirectOf, nextOf}
 use Rattle.instructions.specs.Pages.{accumulatorPages, multiplierPages, auxiliaryPages, branchPages, transferPages, modePages, otherAddressed, otherBranches, otherControls, longImmediates, sharedPages, basePages, otherPages, pages}
 use Rattle.instructions.specs.Decode.{decodeOf}
+use Rattle.machine.specs.declared.Machine.{Machine}
+use Rattle.board.specs.Windows.{programWord}
+use Rattle.emulator.specs.Table.{decodedAt}
 use Rattle.ranges.specs.Fields.{NextFits, IndirectFits, AddressFits, DecodedFits}
 
 next-fits : (low : ℕ) → NextFits (nextOf low)
@@ -513,3 +516,7 @@ first-fits (r ∷ rs) w f = by (has r w) (first-fits rs w (f .1))
 pub decoded-fields : (w : ℕ) → DecodedFits (decodeOf w)
 unfolding decodeOf
 decoded-fields w = first-fits pages w pages-fit
+
+pub fields-at : (rom «data» : List ℕ) (m : Machine) → DecodedFits (decodedAt rom «data» m)
+unfolding decodedAt
+fields-at rom «data» m = decoded-fields (programWord (m .cnf) (m .pc) rom «data»)

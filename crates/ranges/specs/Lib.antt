@@ -6,3 +6,5 @@ pub mod FieldLaws
 pub mod Cells
 pub mod Widths
 pub mod Rules
+pub mod Operands
+pub mod Steps

@@ -6,8 +6,7 @@ use Prim.Native.Nat.{ℕ, _^_, _<_}
 use lib.ListN.{length}
 use Rattle.machine.specs.declared.Machine.{Machine}
 use Rattle.machine.specs.Range.{inRange}
-use Rattle.answers.specs.declared.Answer.{Answer}
-use Rattle.answers.specs.declared.Answer.the-variants.{CellOutOfRange, SlicesUnfit}
+use Rattle.answers.specs.Numbers.{numberOf}
 use Rattle.board.specs.Slices.{slicesFit}
 use Rattle.emulator.specs.World.{World}
 use Rattle.emulator.specs.Step.{stepOf, runOf}
@@ -46,5 +45,8 @@ StepInRange = (rom input : List ℕ) (w : World) → WorldInRange rom input w �
 -- and a run, which so never meets 1 or 2 on the way
 pub record RunInRange (rom input : List ℕ) (budget : ℕ) (w : World) : Type 0 where
   pub world-in-range : WorldInRange rom input (runOf rom input budget w .world)
-  pub never-1 : runOf rom input budget w .answer ≡ CellOutOfRange → ⊥
-  pub never-2 : runOf rom input budget w .answer ≡ SlicesUnfit → ⊥
+  pub never-1 : numberOf (runOf rom input budget w .answer) ≡ 1 → ⊥
+  pub never-2 : numberOf (runOf rom input budget w .answer) ≡ 2 → ⊥
+
+abbrev pub RunsInRange : Type 0
+RunsInRange = (rom input : List ℕ) (budget : ℕ) (w : World) → WorldInRange rom input w → RunInRange rom input budget w

@@ -1,0 +1,344 @@
+-- A step and a run keep the world in range: proofs.
+use mathlib.Core.Path.{_≡_, refl, sym, _∙_, ap, subst}
+use mathlib.Core.Bool.{Bool, true, false, not, cond, _&&_, false≢true}
+use mathlib.Core.List.{List, [], _∷_}
+use Prim.Native.Nat.{ℕ, zero, suc, _+_, _-_, _^_, _≤_, _<_}
+use native.Mathlib.Omega.{arith}
+use lib.Dec.{ltb, leb}
+use lib.ListN.{length, set, length-set}
+use borrow.Author.Tests.{le-leb, eq-eqb, leb-false}
+use Rattle.machine.specs.declared.Machine.{Machine}
+use Rattle.machine.specs.Range.{inRange, Ranged}
+use Rattle.machine.specs.RangeLaws.{ranged, in-range}
+use Rattle.answers.specs.declared.Answer.{Answer}
+use Rattle.answers.specs.declared.Answer.the-variants.{Done}
+use Rattle.answers.specs.Numbers.{numberOf, isDone}
+use Rattle.answers.specs.NumberLaws.{done-is}
+use Rattle.instructions.specs.declared.Instruction.{Instruction}
+use Rattle.instructions.specs.declared.Decoded.{Decoded}
+use Rattle.instructions.specs.declared.Decoded.the-variants.{Base, Published, Nothing}
+use Rattle.passes.specs.declared.Store.{Store}
+use Rattle.passes.specs.declared.Store.the-variants as Left
+use Rattle.passes.specs.declared.Jump.{Jump}
+use Rattle.passes.specs.declared.Jump.the-variants.{Past, To}
+use Rattle.passes.specs.Passes.{destination, followed}
+use Rattle.traits.specs.declared.Traits.{Traits}
+use Rattle.traits.specs.Pages.{traitsOf}
+use Rattle.addressing.specs.Addressing.{addressed, addressOf}
+use Rattle.board.specs.Regions.{moveAllowed}
+use Rattle.board.specs.Slices.{memoriesFit, portFits, portSpent, slicesFit}
+use Rattle.board.specs.Facts.{SlicesFit}
+use Rattle.board.specs.SliceLaws.{slices-fit}
+use Rattle.plans.specs.declared.Write.{Write}
+use Rattle.plans.specs.declared.Write.the-variants as Write
+use Rattle.plans.specs.Rows.{Row, row, firstGiven}
+use Rattle.plans.specs.Pass.{sends, outputFull, wordsRead, effectOf, writeOf, passedMachine, passedWrite, performed, dataAfter, outputAfter}
+use Rattle.emulator.specs.World.{World}
+use Rattle.emulator.specs.Table.{decodedAt, secondWord, tableFor, checksOf}
+use Rattle.emulator.specs.Step.{stored, stepOf, runOf}
+use Rattle.laws.specs.Laws.{rowsOf, NoneHolds}
+use Rattle.laws.specs.Steps.{step-answer, step-world, refused-unchanged, row-given}
+use Rattle.laws.specs.Runs.{run-none, run-refused, run-done, by-first}
+use Rattle.ranges.specs.Ranges.{WordsFit, WordSized, WorldInRange, StepInRange, RunInRange, RunsInRange}
+use Rattle.ranges.specs.Fields.{FieldsFit, DecodedFits}
+use Rattle.ranges.specs.FieldLaws.{fields-at}
+use Rattle.ranges.specs.Cells.{Fits, words-set, set-pc, set-mid, set-rptc, rptc-fits}
+use Rattle.ranges.specs.Widths.{sum-lt}
+use Rattle.ranges.specs.Rules.{StoreFits, JumpFits, EffectFits, rule-keeps}
+use Rattle.ranges.specs.Operands.{operand-fits, addressed-keeps, addressed-cursors, second-lt, words-read}
+
+-- ---- the world's cells, and back
+
+module _ (rom input : List ℕ) (w : World) where
+  cells-fit : WorldInRange rom input w → Fits (length input) (length (w .output)) (w .m)
+  cells-fit k =
+      let r = ranged (w .m) (k .in-range) in
+      let s = slices-fit (w .m) rom (w .«data») input (length (w .output)) (k .slices-fit) in
+      let z = k .sized in
+      record {
+        below = (
+          z .acc,
+          (
+            z .p,
+            (
+              z .t,
+              (
+                z .pc,
+                (
+                  z .pfc,
+                  (
+                    omega (arith, r .arp),
+                    (
+                      omega (arith, r .arb),
+                      (
+                        omega (arith, r .dp),
+                        (
+                          omega (arith, r .pm),
+                          (
+                            omega (arith, r .ov),
+                            (
+                              omega (arith, r .ovm),
+                              (
+                                omega (arith, r .sxm),
+                                (
+                                  omega (arith, r .c),
+                                  (
+                                    omega (arith, r .cnf),
+                                    (
+                                      omega (arith, r .mid),
+                                      (
+                                        omega (arith, r .rptc),
+                                        (
+                                          omega (arith, s .input-port .not-past),
+                                          (omega (arith, s .output-port .not-past), tt),
+                                        ),
+                                      ),
+                                    ),
+                                  ),
+                                ),
+                              ),
+                            ),
+                          ),
+                        ),
+                      ),
+                    ),
+                  ),
+                ),
+              ),
+            ),
+          ),
+        );
+        ar = z .ar;
+        ar-count = z .ar-count;
+        stack = z .stack;
+        stack-count = z .stack-count;
+      }
+
+module _ {i o : ℕ} {m : Machine} (f : Fits i o m) (hi : i ≤ 1024) (ho : o ≤ 1024) where
+  fits-ranged : inRange m ≡ true
+  fits-ranged =
+      let b = f .below .1 .1 .1 .1 .1 in
+      in-range m (record {
+        arp = omega (arith, b .0);
+        arb = omega (arith, b .1 .0);
+        dp = omega (arith, b .1 .1 .0);
+        pm = omega (arith, b .1 .1 .1 .0);
+        ov = omega (arith, b .1 .1 .1 .1 .0);
+        ovm = omega (arith, b .1 .1 .1 .1 .1 .0);
+        sxm = omega (arith, b .1 .1 .1 .1 .1 .1 .0);
+        c = omega (arith, b .1 .1 .1 .1 .1 .1 .1 .0);
+        cnf = omega (arith, b .1 .1 .1 .1 .1 .1 .1 .1 .0);
+        mid = omega (arith, b .1 .1 .1 .1 .1 .1 .1 .1 .1 .0);
+        rptc = omega (arith, b .1 .1 .1 .1 .1 .1 .1 .1 .1 .1 .0);
+        input-cursor = omega (arith, b .1 .1 .1 .1 .1 .1 .1 .1 .1 .1 .1 .0);
+        output-cursor = omega (arith, b .1 .1 .1 .1 .1 .1 .1 .1 .1 .1 .1 .1 .0);
+      })
+
+  fits-sized : WordSized m
+  fits-sized = record {
+    acc = f .below .0;
+    p = f .below .1 .0;
+    t = f .below .1 .1 .0;
+    pc = f .below .1 .1 .1 .0;
+    pfc = f .below .1 .1 .1 .1 .0;
+    ar = f .ar;
+    ar-count = f .ar-count;
+    stack = f .stack;
+    stack-count = f .stack-count;
+  }
+
+  fits-slices : (rom «data» input : List ℕ) → length rom ≡ 4096 → length «data» ≡ 4096 → length input ≡ i → slicesFit m rom «data» input o ≡ true
+  unfolding slicesFit memoriesFit portFits
+  fits-slices rom «data» input hr hd e =
+      let b = f .below .1 .1 .1 .1 .1 .1 .1 .1 .1 .1 .1 .1 .1 .1 .1 .1 in
+      simp (
+        eq-eqb _ _ hr,
+        eq-eqb _ _ hd,
+        e,
+        le-leb i 1024 hi,
+        le-leb (m .«input_cursor») i (omega (arith, b .0)),
+        le-leb o 1024 ho,
+        le-leb (m .«output_cursor») o (omega (arith, b .1 .0)),
+      )
+
+-- ---- what follows a pass, and its store
+
+destination-lt : (jump : Jump) (pc words : ℕ) → JumpFits jump → destination jump pc words < 2 ^ 16
+unfolding destination
+destination-lt Past pc words h = sum-lt pc words
+destination-lt (To to) pc words h = h
+
+either : (t : Bool) {i o : ℕ} {a b : Machine} → Fits i o a → Fits i o b → Fits i o (cond t a b)
+either true f g = f
+either false f g = g
+
+followed-keeps : {i o : ℕ} {m : Machine} (jump : Jump) (words : ℕ) (repeatable : Bool) → Fits i o m → JumpFits jump → Fits i o (followed m jump words repeatable)
+unfolding followed
+followed-keeps {i} {o} {m} jump words repeatable f h =
+    either (repeatable && ltb 0 (m .rptc))
+    (set-mid (set-rptc f (omega (arith, rptc-fits f))) (omega arith))
+    (set-pc (set-mid f (omega arith)) (destination-lt jump (m .pc) words h))
+
+-- the word of a store is of 16 bits
+abbrev WriteFits : Write → Type 0
+WriteFits Write.Nothing = Unit {0}
+WriteFits (Write.Data address word) = word < 2 ^ 16
+WriteFits (Write.Sent at word) = word < 2 ^ 16
+
+moved-fits : (allowed : Bool) (address word : ℕ) → word < 2 ^ 16 → WriteFits (cond allowed (Write.Data address word) Write.Nothing)
+moved-fits true address word h = h
+moved-fits false address word h = tt
+
+write-fits : (store : Store) (cnf address cursor : ℕ) → StoreFits store → WriteFits (writeOf store cnf address cursor)
+unfolding writeOf
+write-fits Left.Nothing cnf address cursor h = tt
+write-fits (Left.Word word) cnf address cursor h = h
+write-fits (Left.Move word) cnf address cursor h = moved-fits (moveAllowed cnf address) (address + 1) word h
+write-fits (Left.Sent word) cnf address cursor h = h
+
+-- the slices after a store: as long as before, and of words of 16 bits
+record SlicesKept (write : Write) (d output : List ℕ) : Type 0 where
+  data-length : length (dataAfter write d) ≡ length d
+  output-length : length (outputAfter write output) ≡ length output
+  data-words : WordsFit (dataAfter write d)
+  output-words : WordsFit (outputAfter write output)
+
+slices-kept : (write : Write) (d output : List ℕ) → WriteFits write → WordsFit d → WordsFit output → SlicesKept write d output
+unfolding dataAfter outputAfter
+slices-kept Write.Nothing d output h f g = record { data-length = refl; output-length = refl; data-words = f; output-words = g }
+slices-kept (Write.Data address word) d output h f g =
+    record { data-length = length-set d address word; output-length = refl; data-words = words-set d address word h f; output-words = g }
+slices-kept (Write.Sent at word) d output h f g =
+    record { data-length = refl; output-length = length-set output at word; data-words = f; output-words = words-set output at word h g }
+
+-- ---- the pass
+
+module _ (rom input d : List ℕ) (o : ℕ) (x : Instruction) (m : Machine) (f : Fits (length input) o m) (g : FieldsFit x)
+    (room : sends (traitsOf x .port) ≡ true → m .«output_cursor» < o)
+    (hr : WordsFit rom) (hd : WordsFit d) (hi : WordsFit input) where
+  effect-fits : EffectFits (length input) o (effectOf x (secondWord x rom d m) rom d input m)
+  unfolding effectOf
+  effect-fits =
+      rule-keeps x (wordsRead (traitsOf x) (secondWord x rom d m) rom d input m) f (addressed-keeps (traitsOf x .operand) (operand-fits x g) f)
+      (words-read (traitsOf x) (secondWord x rom d m) rom d input m (second-lt x rom d m hr hd) hr hd hi) g
+      (λ e. rw (addressed-cursors (traitsOf x .operand) m .1) (room e))
+
+  passed-fits : Fits (length input) o (passedMachine x (secondWord x rom d m) rom d input m)
+  unfolding passedMachine
+  passed-fits = followed-keeps (effectOf x (secondWord x rom d m) rom d input m .jump) (traitsOf x .words) (traitsOf x .repeatable) (effect-fits .m) (effect-fits .jump)
+
+  passed-write : WriteFits (passedWrite x (secondWord x rom d m) rom d input m)
+  unfolding passedWrite
+  passed-write = write-fits (effectOf x (secondWord x rom d m) rom d input m .store) (m .cnf) (addressOf (traitsOf x .operand) m) (m .«output_cursor») (effect-fits .store)
+
+-- ---- the step
+
+room-where : (s t : Bool) → s && t ≡ false → s ≡ true → t ≡ false
+room-where true t h e = h
+room-where false t h e = absurd (false≢true e)
+
+room-left : (t : Traits) (o : ℕ) (m : Machine) → outputFull t o m ≡ false → sends (t .port) ≡ true → m .«output_cursor» < o
+unfolding outputFull portSpent
+room-left t o m h e = leb-false _ _ (room-where (sends (t .port)) (leb o (m .«output_cursor»)) h e)
+
+module _ (rom input : List ℕ) (w : World) (k : WorldInRange rom input w) (e : stepOf rom input w .answer ≡ Done) where
+  base-in-range : (x : Instruction) → decodedAt rom (w .«data») (w .m) ≡ Base x → FieldsFit x → outputFull (traitsOf x) (length (w .output)) (w .m) ≡ false
+      → WorldInRange rom input (stepOf rom input w .world)
+  unfolding stored performed
+  base-in-range x c g full =
+      let s = slices-fit (w .m) rom (w .«data») input (length (w .output)) (k .slices-fit) in
+      let room = room-left (traitsOf x) (length (w .output)) (w .m) full in
+      let f = cells-fit rom input w k in
+      let write = passedWrite x (secondWord x rom (w .«data») (w .m)) rom (w .«data») input (w .m) in
+      let after = slices-kept write (w .«data») (w .output)
+      (passed-write rom input (w .«data») (length (w .output)) x (w .m) f g room (k .rom-words) (k .data-words) (k .input-words)) (k .data-words) (k .output-words) in
+      let n = passed-fits rom input (w .«data») (length (w .output)) x (w .m) f g room (k .rom-words) (k .data-words) (k .input-words) in
+      let hi : length input ≤ 1024 = s .input-port .size-most in
+      let ho : length (w .output) ≤ 1024 = s .output-port .size-most in
+      rw (step-world rom input w x c e)
+      (record {
+        in-range = fits-ranged n hi ho;
+        slices-fit = rw (after .output-length) (fits-slices n hi ho rom (dataAfter write (w .«data»)) input (s .memories .rom-size) (after .data-length ∙ s .memories .data-size) refl);
+        sized = fits-sized n hi ho;
+        rom-words = k .rom-words;
+        input-words = k .input-words;
+        data-words = after .data-words;
+        output-words = after .output-words;
+      })
+
+  decoded-in-range : (c : Decoded) → decodedAt rom (w .«data») (w .m) ≡ c → DecodedFits c
+      → NoneHolds (tableFor c rom (w .«data») input (length (w .output)) (w .m)) → WorldInRange rom input (stepOf rom input w .world)
+  unfolding tableFor
+  decoded-in-range (Base x) c g n = base-in-range x c g (n .1 .1 .1 .1 .1 .1 .1 .1 .1 .1 .1 .0)
+  decoded-in-range Published c g n = absurd (false≢true (sym (n .1 .1 .1 .1 .0)))
+  decoded-in-range Nothing c g n = absurd (false≢true (sym (n .1 .1 .1 .0)))
+
+  done-in-range : WorldInRange rom input (stepOf rom input w .world)
+  done-in-range = decoded-in-range (decodedAt rom (w .«data») (w .m)) refl (fields-at rom (w .«data») (w .m)) (row-given rom input w .done-only e)
+
+pub step-in-range : StepInRange
+step-in-range rom input w k =
+    by-first rom input w
+    (λ d. done-in-range rom input w k (done-is _ d))
+    (λ r. rw (refused-unchanged rom input w r) k)
+
+-- ---- runs
+
+-- an answer that is neither 1 nor 2
+pub record Other (a : Answer) : Type 0 where
+  pub not-1 : numberOf a ≡ 1 → ⊥
+  pub not-2 : numberOf a ≡ 2 → ⊥
+
+passed-over : (a : Answer) (given : Bool) (rows : List Row) → given ≡ false → Other (firstGiven rows) → Other (firstGiven (row a given ∷ rows))
+unfolding firstGiven
+passed-over a given rows h n = rw h n
+
+other-row : (a : Answer) (given : Bool) (rows : List Row) → Other a → Other (firstGiven rows) → Other (firstGiven (row a given ∷ rows))
+unfolding firstGiven
+other-row a true rows h n = h
+other-row a false rows h n = n
+
+none-left : Other (firstGiven [])
+unfolding firstGiven
+none-left = record { not-1 = λ e. omega arith; not-2 = λ e. omega arith }
+
+table-other : (c : Decoded) (rom «data» input : List ℕ) (o : ℕ) (m : Machine) → inRange m ≡ true → slicesFit m rom «data» input o ≡ true
+    → Other (firstGiven (tableFor c rom «data» input o m))
+unfolding tableFor
+table-other c rom «data» input o m h k =
+    passed-over _ _ _ (ap not h)
+    (passed-over _ _ _ (ap not k)
+    (other-row _ _ _ (record { not-1 = λ e. omega arith; not-2 = λ e. omega arith })
+    (other-row _ _ _ (record { not-1 = λ e. omega arith; not-2 = λ e. omega arith })
+    (other-row _ _ _ (record { not-1 = λ e. omega arith; not-2 = λ e. omega arith })
+    (other-row _ _ _ (record { not-1 = λ e. omega arith; not-2 = λ e. omega arith })
+    (other-row _ _ _ (record { not-1 = λ e. omega arith; not-2 = λ e. omega arith })
+    (other-row _ _ _ (record { not-1 = λ e. omega arith; not-2 = λ e. omega arith })
+    (other-row _ _ _ (record { not-1 = λ e. omega arith; not-2 = λ e. omega arith })
+    (other-row _ _ _ (record { not-1 = λ e. omega arith; not-2 = λ e. omega arith })
+    (other-row _ _ _ (record { not-1 = λ e. omega arith; not-2 = λ e. omega arith })
+    (other-row _ _ _ (record { not-1 = λ e. omega arith; not-2 = λ e. omega arith }) none-left)))))))))))
+
+checks-other : (rom «data» input : List ℕ) (o : ℕ) (m : Machine) → inRange m ≡ true → slicesFit m rom «data» input o ≡ true → Other (checksOf rom «data» input o m)
+unfolding checksOf
+checks-other rom «data» input o m h k = passed-over _ _ _ (ap not h) (passed-over _ _ _ (ap not k) none-left)
+
+module _ (rom input : List ℕ) where
+  step-other : (w : World) → WorldInRange rom input w → Other (stepOf rom input w .answer)
+  step-other w k = rw (step-answer rom input w) (table-other (decodedAt rom (w .«data») (w .m)) rom (w .«data») input (length (w .output)) (w .m) (k .in-range) (k .slices-fit))
+
+  run-keeps : (n : ℕ) (w : World) → WorldInRange rom input w → RunInRange rom input n w
+  run-keeps zero w k =
+      let other = checks-other rom (w .«data») input (length (w .output)) (w .m) (k .in-range) (k .slices-fit) in
+      record { world-in-range = rw (run-none rom input w) k; never-1 = rw (run-none rom input w) (other .not-1); never-2 = rw (run-none rom input w) (other .not-2) }
+  run-keeps (suc n) w k =
+      by-first rom input w
+      (λ d.
+      let r = run-keeps n (stepOf rom input w .world) (step-in-range rom input w k) in
+      record { world-in-range = rw (run-done rom input n w d) (r .world-in-range); never-1 = rw (run-done rom input n w d) (r .never-1); never-2 = rw (run-done rom input n w d) (r .never-2) })
+      (λ d.
+      let other = step-other w k in
+      record { world-in-range = rw (run-refused rom input n w d) k; never-1 = rw (run-refused rom input n w d) (other .not-1); never-2 = rw (run-refused rom input n w d) (other .not-2) })
+
+pub runs-in-range : RunsInRange
+runs-in-range rom input budget w k = run-keeps rom input budget w k
