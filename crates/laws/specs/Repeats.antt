@@ -1,8 +1,8 @@
 -- What every pass of a repeatable instruction does: proofs.
 use mathlib.Core.Path.{_≡_, refl, sym, _∙_, ap}
 use mathlib.Core.Bool.{Bool, true, false, not, cond, _&&_, false≢true}
-use mathlib.Core.List.{List, [], _∷_}
-use Prim.Native.Nat.{ℕ, zero, suc, _+_, _-_, _≤_}
+use mathlib.Core.List.{List}
+use Prim.Native.Nat.{ℕ, suc, _-_, _≤_}
 use native.Mathlib.Omega.{arith}
 use lib.Dec.{ltb}
 use lib.ListN.{length}
@@ -10,10 +10,9 @@ use borrow.Author.Tests.{lt-ltb, not-false}
 use Rattle.words.specs.Registers.{wrappedSum}
 use Rattle.machine.specs.declared.Machine.{Machine}
 use Rattle.machine.specs.Cells.{withPc, withMid, withRptc}
-use Rattle.machine.specs.Range.{inRange, Ranged}
+use Rattle.machine.specs.Range.{inRange}
 use Rattle.machine.specs.RangeLaws.{ranged, in-range}
 use Rattle.answers.specs.declared.Answer.the-variants.{Done}
-use Rattle.answers.specs.Numbers.{isDone}
 use Rattle.instructions.specs.declared.Instruction.{Instruction}
 use Rattle.instructions.specs.declared.Instruction.the-variants as Family
 use Rattle.instructions.specs.declared.Accumulator.{Accumulator}
@@ -39,9 +38,7 @@ use Rattle.multiplier.specs.Pages.{tableAddress, LT, LTA, LTP, LTD, LTS, MPY, M
 use Rattle.auxiliary.specs.Pages.{LAR, SAR, LARK, MAR, ADRK, SBRK, LDP, LDPK}
 use Rattle.modes.specs.Pages.{SOVM, ROVM, SSXM, RSXM, CNFD, CNFP, RPT, RPTK, PUSH, POP}
 use Rattle.transfers.specs.Pages.{DMOV, IN, OUT}
-use Rattle.instructions.specs.declared.Decoded.{Decoded}
 use Rattle.instructions.specs.declared.Decoded.the-variants.{Base}
-use Rattle.instructions.specs.declared.Modification.{Modification}
 use Rattle.instructions.specs.declared.NextArp.{NextArp}
 use Rattle.instructions.specs.declared.NextArp.the-variants.{Same, To}
 use Rattle.instructions.specs.declared.Indirect.{Indirect}
@@ -57,15 +54,12 @@ use Rattle.addressing.specs.Addressing.{pointed, modified, addressed, addressOf
 use Rattle.rules.specs.declared.Words.{Words}
 use Rattle.rules.specs.Rules.{ruleOf}
 use Rattle.board.specs.Slices.{slicesFit}
-use Rattle.plans.specs.declared.Plan.{Plan}
-use Rattle.plans.specs.declared.Write.{Write}
-use Rattle.plans.specs.Rows.{Row, row, firstGiven}
 use Rattle.plans.specs.Pass.{addressAbove, dataAbsent, tableAbsent, outputFull, wordsRead, effectOf, passedMachine, passedWrite, performed, dataAfter, outputAfter}
 use Rattle.emulator.specs.World.{World}
-use Rattle.emulator.specs.Table.{decodedAt, secondAddress, secondWord, notRepeatable, secondAbsent, tableFor, refusalOf}
-use Rattle.emulator.specs.Step.{pagePlan, planOf, stored, stepOf}
+use Rattle.emulator.specs.Table.{decodedAt, secondAddress, secondWord, notRepeatable, secondAbsent, tableFor}
+use Rattle.emulator.specs.Step.{stored, stepOf}
 use Rattle.laws.specs.Laws.{rowsOf, NoneHolds, recounted, workOf, effectAt, writeAt, PassWorks, EveryPassWorks}
-use Rattle.laws.specs.Steps.{step-world, row-given}
+use Rattle.laws.specs.Steps.{_and_, row-not, step-world, row-given}
 
 -- the machine with another RPTC and another PC
 abbrev placed : Machine → ℕ → ℕ → Machine
@@ -263,7 +257,8 @@ module _ (rom input : List ℕ) (w : World) (i : Instruction) (d : decodedAt rom
   none-recounted : NoneHolds (tableFor (Base i) rom (w .«data») input (length (w .output)) (w .m)) → NoneHolds (tableFor (Base i) rom (w .«data») input (length (w .output)) (withRptc (w .m) n))
   unfolding tableFor slicesFit notRepeatable secondAbsent secondAddress secondWord addressAbove dataAbsent tableAbsent tableAddress outputFull
   none-recounted o =
-      let r = ranged (w .m) (not-false _ (o .0)) in
+      let rows = tableFor (Base i) rom (w .«data») input (length (w .output)) (w .m) in
+      let r = ranged (w .m) (not-false _ (row-not rows 0 o)) in
       let a = address-placed (traitsOf i .operand) (w .m) n (w .m .pc) in
       let fits : inRange (withRptc (w .m) n) ≡ true = in-range (withRptc (w .m) n) (record {
         arp = r .arp;
@@ -279,40 +274,20 @@ module _ (rom input : List ℕ) (w : World) (i : Instruction) (d : decodedAt rom
         rptc = l;
         input-cursor = r .input-cursor;
         output-cursor = r .output-cursor;
-      }) in (
-        ap not fits,
-        (
-          o .1 .0,
-          (
-            o .1 .1 .0,
-            (
-              refl,
-              (
-                refl,
-                (
-                  rw h (never (ltb 0 n)),
-                  (
-                    o .1 .1 .1 .1 .1 .1 .0,
-                    (
-                      o .1 .1 .1 .1 .1 .1 .1 .0,
-                      (
-                        rw a (o .1 .1 .1 .1 .1 .1 .1 .1 .0),
-                        (
-                          rw a (o .1 .1 .1 .1 .1 .1 .1 .1 .1 .0),
-                          (
-                            o .1 .1 .1 .1 .1 .1 .1 .1 .1 .1 .0,
-                            (o .1 .1 .1 .1 .1 .1 .1 .1 .1 .1 .1 .0, tt),
-                          ),
-                        ),
-                      ),
-                    ),
-                  ),
-                ),
-              ),
-            ),
-          ),
-        ),
-      )
+      }) in
+      ap not fits
+      and row-not rows 1 o
+      and row-not rows 2 o
+      and refl
+      and refl
+      and rw h (never (ltb 0 n))
+      and row-not rows 6 o
+      and row-not rows 7 o
+      and rw a (row-not rows 8 o)
+      and rw a (row-not rows 9 o)
+      and row-not rows 10 o
+      and row-not rows 11 o
+      and tt
 
   done-recounted : stepOf rom input (recounted w n) .answer ≡ Done
   done-recounted =
@@ -346,7 +321,7 @@ module _ (rom input : List ℕ) (w : World) (i : Instruction) (d : decodedAt rom
 
   in-bounds : w .m .rptc ≤ 255
   unfolding tableFor
-  in-bounds = ranged (w .m) (not-false _ (row-given rom input w .done-only e .0)) .rptc
+  in-bounds = ranged (w .m) (not-false _ (row-not (rowsOf rom input w) 0 (row-given rom input w .done-only e))) .rptc
 
   pass-works : PassWorks rom input w i
   unfolding stored performed

@@ -6,16 +6,12 @@ use Prim.Native.Nat.{ℕ, zero, suc, _+_, _≤_, _<_}
 use native.Mathlib.Nat.{zero-add}
 use native.Mathlib.Omega.{arith}
 use lib.ListN.{length}
-use Rattle.machine.specs.declared.Machine.{Machine}
-use Rattle.machine.specs.Range.{inRange}
-use Rattle.answers.specs.declared.Answer.{Answer}
 use Rattle.answers.specs.Numbers.{numberOf, isDone}
-use Rattle.instructions.specs.declared.Decoded.{Decoded}
-use Rattle.plans.specs.Rows.{Row, row, firstGiven}
+use Rattle.plans.specs.Rows.{Row, firstGiven}
 use Rattle.emulator.specs.World.{World, RunOutcome}
-use Rattle.emulator.specs.Table.{decodedAt, tableFor, checksOf}
-use Rattle.emulator.specs.Step.{stepOf, oneMore, stopped, runOf}
-use Rattle.laws.specs.Laws.{AnswersOfARun, rowsOf, worldAfter, AllDone, RunIs, continued, RunsAdd}
+use Rattle.emulator.specs.Table.{tableFor, checksOf}
+use Rattle.emulator.specs.Step.{stepOf, oneMore, runOf}
+use Rattle.laws.specs.Laws.{AnswersOfARun, worldAfter, AllDone, RunIs, continued, RunsAdd}
 use Rattle.laws.specs.Steps.{step-answer, refused-unchanged, answers-of-a-step, checks-most}
 
 module _ (rom input : List ℕ) where

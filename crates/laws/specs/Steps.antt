@@ -21,6 +21,11 @@ use Rattle.emulator.specs.Table.{decodedAt, secondWord, tableFor, refusalOf, ch
 use Rattle.emulator.specs.Step.{pagePlan, planOf, stored, stepOf}
 use Rattle.laws.specs.Laws.{RefusedUnchanged, AnswersOfAStep, rowsOf, NoneHolds, GivenBy, RowGiven}
 
+-- facts one after another
+infixr 4 _and_
+abbrev pub _and_ : {A B : Type 0} → A → B → A × B
+a and b = (a, b)
+
 page-done : (d : Decoded) (rom «data» input : List ℕ) (m : Machine) → pagePlan d rom «data» input m .answer ≡ Done
 unfolding pagePlan performed
 page-done (Base i) rom «data» input m = refl
@@ -102,6 +107,17 @@ unfolding firstGiven
 none-done [] n = refl
 none-done (r ∷ rows) n = rw (n .0) (none-done rows (n .1))
 
+-- the condition of the row k of a table, counted from 0
+abbrev pub givenAt : List Row → ℕ → Bool
+givenAt [] k = false
+givenAt (r ∷ rows) zero = r .given
+givenAt (r ∷ rows) (suc k) = givenAt rows k
+
+pub row-not : (rows : List Row) (k : ℕ) → NoneHolds rows → givenAt rows k ≡ false
+row-not [] k n = refl
+row-not (r ∷ rows) zero n = n .0
+row-not (r ∷ rows) (suc k) n = row-not rows k (n .1)
+
 -- every row of a table is a refusal
 abbrev Refusals : List Row → Type 0
 Refusals [] = Unit {0}
@@ -109,7 +125,7 @@ Refusals (r ∷ rows) = (isDone (r .answer) ≡ false) × Refusals rows
 
 table-refuses : (d : Decoded) (rom «data» input : List ℕ) (outputLength : ℕ) (m : Machine) → Refusals (tableFor d rom «data» input outputLength m)
 unfolding tableFor
-table-refuses d rom «data» input outputLength m = (refl, (refl, (refl, (refl, (refl, (refl, (refl, (refl, (refl, (refl, (refl, (refl, tt))))))))))))
+table-refuses d rom «data» input outputLength m = refl and refl and refl and refl and refl and refl and refl and refl and refl and refl and refl and refl and tt
 
 first-from : (rows : List Row) (a : Answer) → isDone a ≡ false → firstGiven rows ≡ a → GivenBy a rows
 unfolding firstGiven

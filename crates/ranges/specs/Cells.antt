@@ -1,11 +1,11 @@
 -- The cells of a machine with their limits, and what each setter keeps below them: proofs.
 use mathlib.Core.Path.{_≡_, refl, sym, _∙_, subst}
 use mathlib.Core.List.{List, [], _∷_, _++_}
-use Prim.Native.Nat.{ℕ, zero, suc, _+_, _^_, _<_, _≤_}
+use Prim.Native.Nat.{ℕ, zero, suc, _+_, _^_, _<_}
 use native.Mathlib.Omega.{arith}
 use lib.ListN.{length, take, drop, getD, set, length-set}
 use Rattle.machine.specs.declared.Machine.{Machine}
-use Rattle.machine.specs.Cells.{withStack, withAcc, withP, withT, withPc, withPfc, withArp, withArb, withDp, withPm, withOv, withOvm, withSxm, withC, withCnf, withMid, withRptc, withInputCursor, withOutputCursor, withRegister}
+use Rattle.machine.specs.Cells.{withAcc, withP, withT, withPc, withPfc, withArp, withArb, withDp, withPm, withOv, withOvm, withSxm, withC, withCnf, withMid, withRptc, withInputCursor, withOutputCursor, withRegister}
 use Rattle.machine.specs.Stack.{pushOf, popOf, topOf, pushOn, popOn}
 use Rattle.machine.specs.StackLaws.{push-length, pop-length}
 use Rattle.ranges.specs.Ranges.{WordsFit}
@@ -71,9 +71,19 @@ replaced (e ∷ es) zero x = (x, e .1) ∷ es
 replaced (e ∷ es) (suc k) x = e ∷ replaced es k x
 
 abbrev limitAt : List (ℕ × ℕ) → ℕ → ℕ
-limitAt [] k = 0
+limitAt [] k = 1
 limitAt (e ∷ es) zero = e .1
 limitAt (e ∷ es) (suc k) = limitAt es k
+
+abbrev valueAt : List (ℕ × ℕ) → ℕ → ℕ
+valueAt [] k = 0
+valueAt (e ∷ es) zero = e .0
+valueAt (e ∷ es) (suc k) = valueAt es k
+
+below-at : (l : List (ℕ × ℕ)) (k : ℕ) → Below l → valueAt l k < limitAt l k
+below-at [] k b = omega arith
+below-at (e ∷ es) zero b = b .0
+below-at (e ∷ es) (suc k) b = below-at es k (b .1)
 
 put-below : (l : List (ℕ × ℕ)) (k x : ℕ) → Below l → x < limitAt l k → Below (replaced l k x)
 put-below [] k x b h = tt
@@ -186,33 +196,9 @@ module _ {i o : ℕ} {m : Machine} (f : Fits i o m) where
   unfolding topOf
   top-fits = word-at (m .stack .words) 0 (f .stack)
 
-  -- the cells, by name
-  pub acc-fits : m .acc < 2 ^ 32
-  acc-fits = f .below .0
-
-  pub p-fits : m .p < 2 ^ 32
-  p-fits = f .below .1 .0
-
-  pub t-fits : m .t < 2 ^ 16
-  t-fits = f .below .1 .1 .0
-
-  pub pc-fits : m .pc < 2 ^ 16
-  pc-fits = f .below .1 .1 .1 .0
-
-  pub pfc-fits : m .pfc < 2 ^ 16
-  pfc-fits = f .below .1 .1 .1 .1 .0
-
-  pub arp-fits : m .arp < 8
-  arp-fits = f .below .1 .1 .1 .1 .1 .0
-
-  pub ov-fits : m .ov < 2
-  ov-fits = f .below .1 .1 .1 .1 .1 .1 .1 .1 .1 .0
-
-  pub c-fits : m .c < 2
-  c-fits = f .below .1 .1 .1 .1 .1 .1 .1 .1 .1 .1 .1 .1 .0
-
-  pub rptc-fits : m .rptc < 256
-  rptc-fits = f .below .1 .1 .1 .1 .1 .1 .1 .1 .1 .1 .1 .1 .1 .1 .1 .0
+  -- the cell k, counted from 0, is below its limit
+  pub cell-fits : (k : ℕ) → valueAt (cells i o m) k < limitAt (cells i o m) k
+  cell-fits k = below-at (cells i o m) k (f .below)
 
   pub register-fits : (r : ℕ) → getD (m .ar) r 0 < 2 ^ 16
   register-fits r = word-at (m .ar) r (f .ar)

@@ -1,20 +1,23 @@
 -- The fields of a decoded instruction are within their widths, since its page takes them from so many bits: proofs.
-use mathlib.Core.Path.{_≡_, refl, subst}
+use mathlib.Core.Path.{_≡_, refl}
 use mathlib.Core.Bool.{Bool, true, false}
 use mathlib.Core.List.{List, [], _∷_, _++_}
-use Prim.Native.Nat.{ℕ, _/_, _%_, _<_}
+use Prim.Native.Nat.{ℕ, _/_, _%_}
 use native.Mathlib.Omega.{arith}
-use lib.Dec.{eqb, ltb}
+use lib.Dec.{T, eqb, ltb}
 use borrow.Author.Tests.{ltb-true}
 use Rattle.instructions.specs.declared.NextArp.the-variants.{Same, To}
 use Rattle.instructions.specs.declared.Address.the-variants as Mode
 use Rattle.instructions.specs.declared.Decoded.{Decoded}
-use Rattle.instructions.specs.Encoding.{Row, pick, has, means, first, addressOf, indirectOf, nextOf}
-use Rattle.instructions.specs.Pages.{accumulatorPages, multiplierPages, auxiliaryPages, branchPages, transferPages, modePages, otherAddressed, otherBranches, otherControls, longImmediates, sharedPages, basePages, otherPages, pages}
+use Rattle.instructions.specs.declared.Decoded.the-variants.{Base, Published, Nothing}
+use Rattle.instructions.specs.Encoding.{Row, pick, both, has, means, first, addressOf, indirectOf, nextOf}
+use Rattle.instructions.specs.Pages.{accumulatorPages, multiplierPages, auxiliaryPages, branchPages, transferPages, modePages, basePages, otherPages, pages}
 use Rattle.instructions.specs.Decode.{decodeOf}
+use Rattle.instructions.specs.Every.{both-left, both-right}
 use Rattle.machine.specs.declared.Machine.{Machine}
 use Rattle.board.specs.Windows.{programWord}
-use Rattle.emulator.specs.Table.{decodedAt}
+use Rattle.emulator.specs.Table.{decodedAt, isPublished}
+use Rattle.laws.specs.Steps.{_and_}
 use Rattle.ranges.specs.Fields.{NextFits, IndirectFits, AddressFits, DecodedFits}
 
 next-fits : (low : ℕ) → NextFits (nextOf low)
@@ -45,463 +48,153 @@ RowsFit (r ∷ rs) = ((w : ℕ) → DecodedFits (means r w)) × RowsFit rs
 joined : (a b : List Row) → RowsFit a → RowsFit b → RowsFit (a ++ b)
 unfolding RowsFit
 joined [] b f g = g
-joined (r ∷ a) b f g = (f .0, joined a b (f .1) g)
+joined (r ∷ a) b f g = f .0 and joined a b (f .1) g
 
-accumulatorPages-fit : RowsFit accumulatorPages
-unfolding RowsFit
-accumulatorPages-fit = (
-  λ w. (omega arith, address-fits (w % 256)),
-  (
-    λ w. (omega arith, address-fits (w % 256)),
-    (
-      λ w. (omega arith, address-fits (w % 256)),
-      (
-        λ w. address-fits (w % 256),
-        (
-          λ w. address-fits (w % 256),
-          (
-            λ w. address-fits (w % 256),
-            (
-              λ w. address-fits (w % 256),
-              (
-                λ w. address-fits (w % 256),
-                (
-                  λ w. address-fits (w % 256),
-                  (
-                    λ w. address-fits (w % 256),
-                    (
-                      λ w. address-fits (w % 256),
-                      (
-                        λ w. address-fits (w % 256),
-                        (
-                          λ w. address-fits (w % 256),
-                          (
-                            λ w. (omega arith, address-fits (w % 256)),
-                            (
-                              λ w. (omega arith, address-fits (w % 256)),
-                              (
-                                λ w. omega arith,
-                                (
-                                  λ w. omega arith,
-                                  (
-                                    λ w. omega arith,
-                                    (
-                                      λ w. tt,
-                                      (
-                                        λ w. tt,
-                                        (
-                                          λ w. tt,
-                                          (
-                                            λ w. tt,
-                                            (
-                                              λ w. tt,
-                                              tt,
-                                            ),
-                                          ),
-                                        ),
-                                      ),
-                                    ),
-                                  ),
-                                ),
-                              ),
-                            ),
-                          ),
-                        ),
-                      ),
-                    ),
-                  ),
-                ),
-              ),
-            ),
-          ),
-        ),
-      ),
-    ),
-  ),
-)
+-- a page with no field, with an operand alone, or with a branch's
+no-field : ℕ → Unit {0}
+no-field w = tt
 
-multiplierPages-fit : RowsFit multiplierPages
-unfolding RowsFit
-multiplierPages-fit = (
-  λ w. address-fits (w % 256),
-  (
-    λ w. address-fits (w % 256),
-    (
-      λ w. address-fits (w % 256),
-      (
-        λ w. address-fits (w % 256),
-        (
-          λ w. address-fits (w % 256),
-          (
-            λ w. address-fits (w % 256),
-            (
-              λ w. address-fits (w % 256),
-              (
-                λ w. address-fits (w % 256),
-                (
-                  λ w. address-fits (w % 256),
-                  (
-                    λ w. address-fits (w % 256),
-                    (
-                      λ w. address-fits (w % 256),
-                      (
-                        λ w. address-fits (w % 256),
-                        (
-                          λ w. address-fits (w % 256),
-                          (
-                            λ w. address-fits (w % 256),
-                            (
-                              λ w. omega arith,
-                              (
-                                λ w. tt,
-                                (
-                                  λ w. tt,
-                                  (
-                                    λ w. tt,
-                                    (
-                                      λ w. omega arith,
-                                      tt,
-                                    ),
-                                  ),
-                                ),
-                              ),
-                            ),
-                          ),
-                        ),
-                      ),
-                    ),
-                  ),
-                ),
-              ),
-            ),
-          ),
-        ),
-      ),
-    ),
-  ),
-)
+operand : (w : ℕ) → AddressFits (addressOf (w % 256))
+operand w = address-fits (w % 256)
 
-auxiliaryPages-fit : RowsFit auxiliaryPages
-unfolding RowsFit
-auxiliaryPages-fit = (
-  λ w. (omega arith, address-fits (w % 256)),
-  (
-    λ w. (omega arith, address-fits (w % 256)),
-    (
-      λ w. address-fits (w % 256),
-      (
-        λ w. address-fits (w % 256),
-        (
-          λ w. (omega arith, omega arith),
-          (
-            λ w. omega arith,
-            (
-              λ w. omega arith,
-              (
-                λ w. omega arith,
-                tt,
-              ),
-            ),
-          ),
-        ),
-      ),
-    ),
-  ),
-)
+indirect : (w : ℕ) → IndirectFits (indirectOf (w % 256))
+indirect w = indirect-fits (w % 256)
 
-branchPages-fit : RowsFit branchPages
+accumulator-pages : RowsFit accumulatorPages
 unfolding RowsFit
-branchPages-fit = (
-  λ w. indirect-fits (w % 256),
-  (
-    λ w. indirect-fits (w % 256),
-    (
-      λ w. indirect-fits (w % 256),
-      (
-        λ w. indirect-fits (w % 256),
-        (
-          λ w. indirect-fits (w % 256),
-          (
-            λ w. indirect-fits (w % 256),
-            (
-              λ w. indirect-fits (w % 256),
-              (
-                λ w. indirect-fits (w % 256),
-                (
-                  λ w. indirect-fits (w % 256),
-                  (
-                    λ w. indirect-fits (w % 256),
-                    (
-                      λ w. indirect-fits (w % 256),
-                      (
-                        λ w. tt,
-                        tt,
-                      ),
-                    ),
-                  ),
-                ),
-              ),
-            ),
-          ),
-        ),
-      ),
-    ),
-  ),
-)
+accumulator-pages =
+    (λ w. (omega arith, operand w))
+    and (λ w. (omega arith, operand w))
+    and (λ w. (omega arith, operand w))
+    and operand
+    and operand
+    and operand
+    and operand
+    and operand
+    and operand
+    and operand
+    and operand
+    and operand
+    and operand
+    and (λ w. (omega arith, operand w))
+    and (λ w. (omega arith, operand w))
+    and (λ w. omega arith)
+    and (λ w. omega arith)
+    and (λ w. omega arith)
+    and no-field
+    and no-field
+    and no-field
+    and no-field
+    and no-field
+    and tt
 
-transferPages-fit : RowsFit transferPages
+multiplier-pages : RowsFit multiplierPages
 unfolding RowsFit
-transferPages-fit = (
-  λ w. address-fits (w % 256),
-  (
-    λ w. (omega arith, address-fits (w % 256)),
-    (
-      λ w. (omega arith, address-fits (w % 256)),
-      tt,
-    ),
-  ),
-)
+multiplier-pages =
+    operand
+    and operand
+    and operand
+    and operand
+    and operand
+    and operand
+    and operand
+    and operand
+    and operand
+    and operand
+    and operand
+    and operand
+    and operand
+    and operand
+    and (λ w. omega arith)
+    and no-field
+    and no-field
+    and no-field
+    and (λ w. omega arith)
+    and tt
 
-modePages-fit : RowsFit modePages
+auxiliary-pages : RowsFit auxiliaryPages
 unfolding RowsFit
-modePages-fit = (
-  λ w. address-fits (w % 256),
-  (
-    λ w. omega arith,
-    (
-      λ w. tt,
-      (
-        λ w. tt,
-        (
-          λ w. tt,
-          (
-            λ w. tt,
-            (
-              λ w. tt,
-              (
-                λ w. tt,
-                (
-                  λ w. tt,
-                  (
-                    λ w. tt,
-                    tt,
-                  ),
-                ),
-              ),
-            ),
-          ),
-        ),
-      ),
-    ),
-  ),
-)
+auxiliary-pages =
+    (λ w. (omega arith, operand w))
+    and (λ w. (omega arith, operand w))
+    and operand
+    and operand
+    and (λ w. (omega arith, omega arith))
+    and (λ w. omega arith)
+    and (λ w. omega arith)
+    and (λ w. omega arith)
+    and tt
 
-otherAddressed-fit : RowsFit otherAddressed
+branch-pages : RowsFit branchPages
 unfolding RowsFit
-otherAddressed-fit = (
-  λ w. tt,
-  (
-    λ w. tt,
-    (
-      λ w. tt,
-      (
-        λ w. tt,
-        (
-          λ w. tt,
-          (
-            λ w. tt,
-            (
-              λ w. tt,
-              (
-                λ w. tt,
-                (
-                  λ w. tt,
-                  (
-                    λ w. tt,
-                    (
-                      λ w. tt,
-                      (
-                        λ w. tt,
-                        (
-                          λ w. tt,
-                          (
-                            λ w. tt,
-                            (
-                              λ w. tt,
-                              (
-                                λ w. tt,
-                                (
-                                  λ w. tt,
-                                  (
-                                    λ w. tt,
-                                    (
-                                      λ w. tt,
-                                      (
-                                        λ w. tt,
-                                        tt,
-                                      ),
-                                    ),
-                                  ),
-                                ),
-                              ),
-                            ),
-                          ),
-                        ),
-                      ),
-                    ),
-                  ),
-                ),
-              ),
-            ),
-          ),
-        ),
-      ),
-    ),
-  ),
-)
+branch-pages =
+    indirect
+    and indirect
+    and indirect
+    and indirect
+    and indirect
+    and indirect
+    and indirect
+    and indirect
+    and indirect
+    and indirect
+    and indirect
+    and no-field
+    and tt
 
-otherBranches-fit : RowsFit otherBranches
+transfer-pages : RowsFit transferPages
 unfolding RowsFit
-otherBranches-fit = (
-  λ w. tt,
-  (
-    λ w. tt,
-    (
-      λ w. tt,
-      (
-        λ w. tt,
-        (
-          λ w. tt,
-          tt,
-        ),
-      ),
-    ),
-  ),
-)
+transfer-pages =
+    operand
+    and (λ w. (omega arith, operand w))
+    and (λ w. (omega arith, operand w))
+    and tt
 
-otherControls-fit : RowsFit otherControls
+mode-pages : RowsFit modePages
 unfolding RowsFit
-otherControls-fit = (
-  λ w. tt,
-  (
-    λ w. tt,
-    (
-      λ w. tt,
-      (
-        λ w. tt,
-        (
-          λ w. tt,
-          (
-            λ w. tt,
-            (
-              λ w. tt,
-              (
-                λ w. tt,
-                (
-                  λ w. tt,
-                  (
-                    λ w. tt,
-                    (
-                      λ w. tt,
-                      (
-                        λ w. tt,
-                        (
-                          λ w. tt,
-                          (
-                            λ w. tt,
-                            (
-                              λ w. tt,
-                              (
-                                λ w. tt,
-                                (
-                                  λ w. tt,
-                                  (
-                                    λ w. tt,
-                                    (
-                                      λ w. tt,
-                                      (
-                                        λ w. tt,
-                                        (
-                                          λ w. tt,
-                                          (
-                                            λ w. tt,
-                                            (
-                                              λ w. tt,
-                                              tt,
-                                            ),
-                                          ),
-                                        ),
-                                      ),
-                                    ),
-                                  ),
-                                ),
-                              ),
-                            ),
-                          ),
-                        ),
-                      ),
-                    ),
-                  ),
-                ),
-              ),
-            ),
-          ),
-        ),
-      ),
-    ),
-  ),
-)
+mode-pages =
+    operand
+    and (λ w. omega arith)
+    and no-field
+    and no-field
+    and no-field
+    and no-field
+    and no-field
+    and no-field
+    and no-field
+    and no-field
+    and tt
 
-longImmediates-fit : RowsFit longImmediates
-unfolding RowsFit
-longImmediates-fit = (
-  λ w. tt,
-  (
-    λ w. tt,
-    (
-      λ w. tt,
-      (
-        λ w. tt,
-        (
-          λ w. tt,
-          (
-            λ w. tt,
-            (
-              λ w. tt,
-              tt,
-            ),
-          ),
-        ),
-      ),
-    ),
-  ),
-)
+-- the pages that are not in the base have no instruction, whatever the word
+allPublished : List Row → ℕ → Bool
+allPublished [] w = true
+allPublished (r ∷ rs) w = both (isPublished (means r w)) (allPublished rs w)
 
-sharedPages-fit : RowsFit sharedPages
-unfolding RowsFit
-sharedPages-fit = (
-  λ w. tt,
-  (
-    λ w. tt,
-    (
-      λ w. tt,
-      tt,
-    ),
-  ),
-)
+published-fits : (d : Decoded) → T (isPublished d) → DecodedFits d
+published-fits (Base i) t = absurd t
+published-fits Published t = tt
+published-fits Nothing t = tt
+
+others-fit : (rs : List Row) → ((w : ℕ) → T (allPublished rs w)) → RowsFit rs
+unfolding RowsFit allPublished
+others-fit [] t = tt
+others-fit (r ∷ rs) t =
+    (λ w. published-fits (means r w) (both-left (isPublished (means r w)) (allPublished rs w) (t w)))
+    and others-fit rs (λ w. both-right (isPublished (means r w)) (allPublished rs w) (t w))
+
+other-pages : RowsFit otherPages
+unfolding allPublished
+other-pages = others-fit otherPages (λ w. tt)
 
 pages-fit : RowsFit pages
 pages-fit =
     joined basePages _
-    (joined accumulatorPages _ accumulatorPages-fit
-    (joined multiplierPages _ multiplierPages-fit
-    (joined auxiliaryPages _ auxiliaryPages-fit
-    (joined branchPages _ branchPages-fit
-    (joined transferPages _ transferPages-fit modePages-fit)))))
-    (joined otherAddressed _ otherAddressed-fit
-    (joined otherBranches _ otherBranches-fit
-    (joined otherControls _ otherControls-fit
-    (joined longImmediates _ longImmediates-fit sharedPages-fit))))
+    (joined accumulatorPages _ accumulator-pages
+    (joined multiplierPages _ multiplier-pages
+    (joined auxiliaryPages _ auxiliary-pages
+    (joined branchPages _ branch-pages
+    (joined transferPages _ transfer-pages mode-pages)))))
+    other-pages
 
 first-fits : (rs : List Row) (w : ℕ) → RowsFit rs → DecodedFits (first rs w)
 unfolding RowsFit

@@ -1,5 +1,5 @@
 -- The widths of an instruction's fields, by the bits that its page prints for them.
-use Prim.Native.Nat.{ℕ, _<_}
+use Prim.Native.Nat.{_<_}
 use Rattle.instructions.specs.declared.NextArp.{NextArp}
 use Rattle.instructions.specs.declared.NextArp.the-variants.{Same, To}
 use Rattle.instructions.specs.declared.Indirect.{Indirect}

@@ -8,3 +8,4 @@ pub mod Widths
 pub mod Rules
 pub mod Operands
 pub mod Steps
+pub mod Runs

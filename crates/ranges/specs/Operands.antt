@@ -5,7 +5,7 @@ use mathlib.Core.List.{List, []}
 use Prim.Native.Nat.{ℕ, _+_, _-_, _^_, _<_}
 use native.Mathlib.Omega.{arith}
 use lib.Dec.{eqb}
-use lib.ListN.{length, take, getD}
+use lib.ListN.{length, take}
 use lib.Seq.{slice}
 use borrow.Author.Tests.{leb-false}
 use Rattle.machine.specs.declared.Machine.{Machine}
@@ -43,7 +43,7 @@ use Rattle.plans.specs.Pass.{readWord, wordsRead}
 use Rattle.emulator.specs.Table.{secondAddress, secondWord}
 use Rattle.ranges.specs.Ranges.{WordsFit}
 use Rattle.ranges.specs.Fields.{NextFits, AddressFits, accumulatorFits, multiplierFits, auxiliaryFits, branchesFits, transfersFits, modesFits, FieldsFit}
-use Rattle.ranges.specs.Cells.{Fits, word-at, words-take, words-drop, set-arp, set-arb, set-register, arp-fits, register-fits}
+use Rattle.ranges.specs.Cells.{Fits, word-at, words-take, words-drop, set-arp, set-arb, set-register, cell-fits, register-fits}
 use Rattle.ranges.specs.Widths.{sum-lt, difference-lt, reversed-sum-lt, reversed-difference-lt}
 use Rattle.ranges.specs.Rules.{WordsRead}
 
@@ -171,7 +171,7 @@ module _ {i o : ℕ} where
   pointed-keeps : (next : NextArp) {m : Machine} → NextFits next → Fits i o m → Fits i o (pointed next m)
   unfolding pointed
   pointed-keeps Same g f = f
-  pointed-keeps (To arp) g f = set-arp (set-arb f (arp-fits f)) g
+  pointed-keeps (To arp) g f = set-arp (set-arb f (cell-fits f 5)) g
 
   pub addressed-keeps : (x : Operand) {m : Machine} → OperandFits x → Fits i o m → Fits i o (addressed x m)
   unfolding addressed modified

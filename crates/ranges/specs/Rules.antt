@@ -1,8 +1,7 @@
 -- Every rule keeps the machine in range, and leaves and asks for words of 16 bits: proofs, family by family.
-use mathlib.Core.Path.{_≡_, refl, sym, _∙_}
-use mathlib.Core.Bool.{Bool, true, false, cond}
-use mathlib.Core.List.{List}
-use Prim.Native.Nat.{ℕ, _+_, _%_, _^_, _<_}
+use mathlib.Core.Path.{_≡_, refl}
+use mathlib.Core.Bool.{Bool, true, false}
+use Prim.Native.Nat.{ℕ, _%_, _^_, _<_}
 use native.Mathlib.Omega.{arith}
 use Rattle.words.specs.declared.sums.Sum.{Sum}
 use Rattle.words.specs.declared.shifts.Shifted.{Shifted}
@@ -38,13 +37,13 @@ use Rattle.passes.specs.declared.Store.the-variants as Left
 use Rattle.passes.specs.declared.Jump.{Jump}
 use Rattle.passes.specs.declared.Jump.the-variants.{Past, To}
 use Rattle.passes.specs.declared.Effect.{Effect}
-use Rattle.passes.specs.Passes.{withSum, kept, stored, copied, sent, jumped}
+use Rattle.passes.specs.Passes.{withSum, kept, stored, copied, jumped}
 use Rattle.traits.specs.Pages.{traitsOf, transfersTraits}
 use Rattle.plans.specs.Pass.{sends}
 use Rattle.rules.specs.declared.Words.{Words}
 use Rattle.rules.specs.Rules.{ruleOf}
 use Rattle.ranges.specs.Fields.{accumulatorFits, multiplierFits, auxiliaryFits, modesFits, FieldsFit}
-use Rattle.ranges.specs.Cells.{Fits, set-acc, set-p, set-t, set-pfc, set-dp, set-pm, set-ov, set-ovm, set-sxm, set-c, set-cnf, set-rptc, set-input-cursor, set-output-cursor, set-register, set-pushed, set-popped, top-fits, acc-fits, ov-fits, c-fits, register-fits}
+use Rattle.ranges.specs.Cells.{Fits, set-acc, set-p, set-t, set-pfc, set-dp, set-pm, set-ov, set-ovm, set-sxm, set-c, set-cnf, set-rptc, set-input-cursor, set-output-cursor, set-register, set-pushed, set-popped, top-fits, cell-fits, register-fits}
 use Rattle.ranges.specs.Widths.{SumFits, ShiftedFits, added-fits, subtracted-fits, added-high-fits, subtracted-high-fits, negated-fits, absolute-fits, conditionally-fits, high-half-lt, operand-lt, unsigned-lt, stored-low-lt, stored-high-lt, left-fits, right-fits, anded-lt, ored-lt, xored-lt, complemented-lt, product-lt, shifted-lt, product-high-lt, product-low-lt, sum-lt, sum-le, difference-lt}
 
 -- a word that is to be stored, and a jump, are of 16 bits
@@ -101,29 +100,29 @@ module _ {i o : ℕ} where
 
   accumulator-keeps : (x : Accumulator) {m : Machine} {w : ℕ} → Fits i o m → w < 2 ^ 16 → accumulatorFits x → EffectFits i o (accumulatorRule x m w)
   unfolding accumulatorRule ADD SUB LAC ADDH ADDS SUBH SUBS SUBC ZALH ZALS AND OR XOR SACL SACH LACK ADDK SUBK CMPL NEG ABS SFL SFR
-  accumulator-keeps (Accumulator.Add s a) {m} {w} f h k = only (set-sum f (added-fits _ _ (acc-fits f) (ov-fits f) (operand-lt w s (m .sxm))))
-  accumulator-keeps (Accumulator.Sub s a) {m} {w} f h k = only (set-sum f (subtracted-fits _ _ (acc-fits f) (ov-fits f)))
+  accumulator-keeps (Accumulator.Add s a) {m} {w} f h k = only (set-sum f (added-fits _ _ (cell-fits f 0) (cell-fits f 9) (operand-lt w s (m .sxm))))
+  accumulator-keeps (Accumulator.Sub s a) {m} {w} f h k = only (set-sum f (subtracted-fits _ _ (cell-fits f 0) (cell-fits f 9)))
   accumulator-keeps (Accumulator.Lac s a) {m} {w} f h k = only (set-acc f (operand-lt w s (m .sxm)))
-  accumulator-keeps (Accumulator.Addh a) {m} {w} f h k = only (set-sum f (added-high-fits _ _ (acc-fits f) (ov-fits f) (c-fits f)))
-  accumulator-keeps (Accumulator.Adds a) {m} {w} f h k = only (set-sum f (added-fits _ _ (acc-fits f) (ov-fits f) (unsigned-lt w)))
-  accumulator-keeps (Accumulator.Subh a) {m} {w} f h k = only (set-sum f (subtracted-high-fits _ _ (acc-fits f) (ov-fits f) (c-fits f)))
-  accumulator-keeps (Accumulator.Subs a) {m} {w} f h k = only (set-sum f (subtracted-fits _ _ (acc-fits f) (ov-fits f)))
-  accumulator-keeps (Accumulator.Subc a) {m} {w} f h k = only (set-sum f (conditionally-fits _ (m .ovm) (acc-fits f) (ov-fits f)))
+  accumulator-keeps (Accumulator.Addh a) {m} {w} f h k = only (set-sum f (added-high-fits _ _ (cell-fits f 0) (cell-fits f 9) (cell-fits f 12)))
+  accumulator-keeps (Accumulator.Adds a) {m} {w} f h k = only (set-sum f (added-fits _ _ (cell-fits f 0) (cell-fits f 9) (unsigned-lt w)))
+  accumulator-keeps (Accumulator.Subh a) {m} {w} f h k = only (set-sum f (subtracted-high-fits _ _ (cell-fits f 0) (cell-fits f 9) (cell-fits f 12)))
+  accumulator-keeps (Accumulator.Subs a) {m} {w} f h k = only (set-sum f (subtracted-fits _ _ (cell-fits f 0) (cell-fits f 9)))
+  accumulator-keeps (Accumulator.Subc a) {m} {w} f h k = only (set-sum f (conditionally-fits _ (m .ovm) (cell-fits f 0) (cell-fits f 9)))
   accumulator-keeps (Accumulator.Zalh a) {m} {w} f h k = only (set-acc f (high-half-lt w h))
   accumulator-keeps (Accumulator.Zals a) {m} {w} f h k = only (set-acc f (unsigned-lt w))
-  accumulator-keeps (Accumulator.And a) {m} {w} f h k = only (set-acc f (anded-lt (m .acc) w (acc-fits f)))
-  accumulator-keeps (Accumulator.Or a) {m} {w} f h k = only (set-acc f (ored-lt (m .acc) w (acc-fits f)))
-  accumulator-keeps (Accumulator.Xor a) {m} {w} f h k = only (set-acc f (xored-lt (m .acc) w (acc-fits f)))
+  accumulator-keeps (Accumulator.And a) {m} {w} f h k = only (set-acc f (anded-lt (m .acc) w (cell-fits f 0)))
+  accumulator-keeps (Accumulator.Or a) {m} {w} f h k = only (set-acc f (ored-lt (m .acc) w (cell-fits f 0)))
+  accumulator-keeps (Accumulator.Xor a) {m} {w} f h k = only (set-acc f (xored-lt (m .acc) w (cell-fits f 0)))
   accumulator-keeps (Accumulator.Sacl s a) {m} {w} f h k = storing f (stored-low-lt (m .acc) s)
   accumulator-keeps (Accumulator.Sach s a) {m} {w} f h k = storing f (stored-high-lt (m .acc) s)
   accumulator-keeps (Accumulator.Lack n) {m} {w} f h k = only (set-acc f (omega (arith, k)))
-  accumulator-keeps (Accumulator.Addk n) {m} {w} f h k = only (set-sum f (added-fits _ _ (acc-fits f) (ov-fits f) (omega (arith, k))))
-  accumulator-keeps (Accumulator.Subk n) {m} {w} f h k = only (set-sum f (subtracted-fits _ _ (acc-fits f) (ov-fits f)))
+  accumulator-keeps (Accumulator.Addk n) {m} {w} f h k = only (set-sum f (added-fits _ _ (cell-fits f 0) (cell-fits f 9) (omega (arith, k))))
+  accumulator-keeps (Accumulator.Subk n) {m} {w} f h k = only (set-sum f (subtracted-fits _ _ (cell-fits f 0) (cell-fits f 9)))
   accumulator-keeps Accumulator.Cmpl {m} {w} f h k = only (set-acc f (complemented-lt (m .acc)))
-  accumulator-keeps Accumulator.Neg {m} {w} f h k = only (set-sum f (negated-fits 0 _ (acc-fits f) (ov-fits f)))
-  accumulator-keeps Accumulator.Abs {m} {w} f h k = only (set-sum f (absolute-fits 0 _ (acc-fits f) (ov-fits f)))
-  accumulator-keeps Accumulator.Sfl {m} {w} f h k = only (set-shifted f (left-fits (m .acc) (acc-fits f)))
-  accumulator-keeps Accumulator.Sfr {m} {w} f h k = only (set-shifted f (right-fits (m .acc) (m .sxm) (acc-fits f)))
+  accumulator-keeps Accumulator.Neg {m} {w} f h k = only (set-sum f (negated-fits 0 _ (cell-fits f 0) (cell-fits f 9)))
+  accumulator-keeps Accumulator.Abs {m} {w} f h k = only (set-sum f (absolute-fits 0 _ (cell-fits f 0) (cell-fits f 9)))
+  accumulator-keeps Accumulator.Sfl {m} {w} f h k = only (set-shifted f (left-fits (m .acc) (cell-fits f 0)))
+  accumulator-keeps Accumulator.Sfr {m} {w} f h k = only (set-shifted f (right-fits (m .acc) (m .sxm) (cell-fits f 0)))
 
   PAC-fits : {m : Machine} → Fits i o m → Fits i o (PAC m)
   unfolding PAC
@@ -131,11 +130,11 @@ module _ {i o : ℕ} where
 
   APAC-fits : {m : Machine} → Fits i o m → Fits i o (APAC m)
   unfolding APAC
-  APAC-fits {m} f = set-sum f (added-fits _ _ (acc-fits f) (ov-fits f) (shifted-lt (m .p) (m .pm)))
+  APAC-fits {m} f = set-sum f (added-fits _ _ (cell-fits f 0) (cell-fits f 9) (shifted-lt (m .p) (m .pm)))
 
   SPAC-fits : {m : Machine} → Fits i o m → Fits i o (SPAC m)
   unfolding SPAC
-  SPAC-fits f = set-sum f (subtracted-fits _ _ (acc-fits f) (ov-fits f))
+  SPAC-fits f = set-sum f (subtracted-fits _ _ (cell-fits f 0) (cell-fits f 9))
 
   MAC-fits : {m : Machine} {w : ℕ} → Fits i o m → w < 2 ^ 16 → (table at : ℕ) → Fits i o (MAC w table at m)
   unfolding MAC

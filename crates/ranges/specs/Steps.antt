@@ -1,18 +1,16 @@
--- A step and a run keep the world in range: proofs.
-use mathlib.Core.Path.{_≡_, refl, sym, _∙_, ap, subst}
-use mathlib.Core.Bool.{Bool, true, false, not, cond, _&&_, false≢true}
-use mathlib.Core.List.{List, [], _∷_}
-use Prim.Native.Nat.{ℕ, zero, suc, _+_, _-_, _^_, _≤_, _<_}
+-- A step keeps the world in range: proofs.
+use mathlib.Core.Path.{_≡_, refl, sym, _∙_}
+use mathlib.Core.Bool.{Bool, true, false, cond, _&&_, false≢true}
+use mathlib.Core.List.{List}
+use Prim.Native.Nat.{ℕ, _+_, _-_, _^_, _≤_, _<_}
 use native.Mathlib.Omega.{arith}
 use lib.Dec.{ltb, leb}
-use lib.ListN.{length, set, length-set}
+use lib.ListN.{length, length-set}
 use borrow.Author.Tests.{le-leb, eq-eqb, leb-false}
 use Rattle.machine.specs.declared.Machine.{Machine}
-use Rattle.machine.specs.Range.{inRange, Ranged}
+use Rattle.machine.specs.Range.{inRange}
 use Rattle.machine.specs.RangeLaws.{ranged, in-range}
-use Rattle.answers.specs.declared.Answer.{Answer}
 use Rattle.answers.specs.declared.Answer.the-variants.{Done}
-use Rattle.answers.specs.Numbers.{numberOf, isDone}
 use Rattle.answers.specs.NumberLaws.{done-is}
 use Rattle.instructions.specs.declared.Instruction.{Instruction}
 use Rattle.instructions.specs.declared.Decoded.{Decoded}
@@ -24,25 +22,24 @@ use Rattle.passes.specs.declared.Jump.the-variants.{Past, To}
 use Rattle.passes.specs.Passes.{destination, followed}
 use Rattle.traits.specs.declared.Traits.{Traits}
 use Rattle.traits.specs.Pages.{traitsOf}
-use Rattle.addressing.specs.Addressing.{addressed, addressOf}
+use Rattle.addressing.specs.Addressing.{addressOf}
 use Rattle.board.specs.Regions.{moveAllowed}
 use Rattle.board.specs.Slices.{memoriesFit, portFits, portSpent, slicesFit}
-use Rattle.board.specs.Facts.{SlicesFit}
 use Rattle.board.specs.SliceLaws.{slices-fit}
 use Rattle.plans.specs.declared.Write.{Write}
 use Rattle.plans.specs.declared.Write.the-variants as Write
-use Rattle.plans.specs.Rows.{Row, row, firstGiven}
+use Rattle.plans.specs.Rows.{Row}
 use Rattle.plans.specs.Pass.{sends, outputFull, wordsRead, effectOf, writeOf, passedMachine, passedWrite, performed, dataAfter, outputAfter}
 use Rattle.emulator.specs.World.{World}
-use Rattle.emulator.specs.Table.{decodedAt, secondWord, tableFor, checksOf}
-use Rattle.emulator.specs.Step.{stored, stepOf, runOf}
-use Rattle.laws.specs.Laws.{rowsOf, NoneHolds}
-use Rattle.laws.specs.Steps.{step-answer, step-world, refused-unchanged, row-given}
-use Rattle.laws.specs.Runs.{run-none, run-refused, run-done, by-first}
-use Rattle.ranges.specs.Ranges.{WordsFit, WordSized, WorldInRange, StepInRange, RunInRange, RunsInRange}
+use Rattle.emulator.specs.Table.{decodedAt, secondWord, tableFor}
+use Rattle.emulator.specs.Step.{stored, stepOf}
+use Rattle.laws.specs.Laws.{NoneHolds}
+use Rattle.laws.specs.Steps.{_and_, row-not, step-world, refused-unchanged, row-given}
+use Rattle.laws.specs.Runs.{by-first}
+use Rattle.ranges.specs.Ranges.{WordsFit, WordSized, WorldInRange, StepInRange}
 use Rattle.ranges.specs.Fields.{FieldsFit, DecodedFits}
 use Rattle.ranges.specs.FieldLaws.{fields-at}
-use Rattle.ranges.specs.Cells.{Fits, words-set, set-pc, set-mid, set-rptc, rptc-fits}
+use Rattle.ranges.specs.Cells.{Fits, words-set, set-pc, set-mid, set-rptc, cell-fits}
 use Rattle.ranges.specs.Widths.{sum-lt}
 use Rattle.ranges.specs.Rules.{StoreFits, JumpFits, EffectFits, rule-keeps}
 use Rattle.ranges.specs.Operands.{operand-fits, addressed-keeps, addressed-cursors, second-lt, words-read}
@@ -56,58 +53,26 @@ module _ (rom input : List ℕ) (w : World) where
       let s = slices-fit (w .m) rom (w .«data») input (length (w .output)) (k .slices-fit) in
       let z = k .sized in
       record {
-        below = (
-          z .acc,
-          (
-            z .p,
-            (
-              z .t,
-              (
-                z .pc,
-                (
-                  z .pfc,
-                  (
-                    omega (arith, r .arp),
-                    (
-                      omega (arith, r .arb),
-                      (
-                        omega (arith, r .dp),
-                        (
-                          omega (arith, r .pm),
-                          (
-                            omega (arith, r .ov),
-                            (
-                              omega (arith, r .ovm),
-                              (
-                                omega (arith, r .sxm),
-                                (
-                                  omega (arith, r .c),
-                                  (
-                                    omega (arith, r .cnf),
-                                    (
-                                      omega (arith, r .mid),
-                                      (
-                                        omega (arith, r .rptc),
-                                        (
-                                          omega (arith, s .input-port .not-past),
-                                          (omega (arith, s .output-port .not-past), tt),
-                                        ),
-                                      ),
-                                    ),
-                                  ),
-                                ),
-                              ),
-                            ),
-                          ),
-                        ),
-                      ),
-                    ),
-                  ),
-                ),
-              ),
-            ),
-          ),
-        );
+        below =
+            z .acc
+            and z .p
+            and z .t
+            and z .pc
+            and z .pfc
+            and omega (arith, r .arp)
+            and omega (arith, r .arb)
+            and omega (arith, r .dp)
+            and omega (arith, r .pm)
+            and omega (arith, r .ov)
+            and omega (arith, r .ovm)
+            and omega (arith, r .sxm)
+            and omega (arith, r .c)
+            and omega (arith, r .cnf)
+            and omega (arith, r .mid)
+            and omega (arith, r .rptc)
+            and omega (arith, s .input-port .not-past)
+            and omega (arith, s .output-port .not-past)
+            and tt;
         ar = z .ar;
         ar-count = z .ar-count;
         stack = z .stack;
@@ -117,30 +82,29 @@ module _ (rom input : List ℕ) (w : World) where
 module _ {i o : ℕ} {m : Machine} (f : Fits i o m) (hi : i ≤ 1024) (ho : o ≤ 1024) where
   fits-ranged : inRange m ≡ true
   fits-ranged =
-      let b = f .below .1 .1 .1 .1 .1 in
       in-range m (record {
-        arp = omega (arith, b .0);
-        arb = omega (arith, b .1 .0);
-        dp = omega (arith, b .1 .1 .0);
-        pm = omega (arith, b .1 .1 .1 .0);
-        ov = omega (arith, b .1 .1 .1 .1 .0);
-        ovm = omega (arith, b .1 .1 .1 .1 .1 .0);
-        sxm = omega (arith, b .1 .1 .1 .1 .1 .1 .0);
-        c = omega (arith, b .1 .1 .1 .1 .1 .1 .1 .0);
-        cnf = omega (arith, b .1 .1 .1 .1 .1 .1 .1 .1 .0);
-        mid = omega (arith, b .1 .1 .1 .1 .1 .1 .1 .1 .1 .0);
-        rptc = omega (arith, b .1 .1 .1 .1 .1 .1 .1 .1 .1 .1 .0);
-        input-cursor = omega (arith, b .1 .1 .1 .1 .1 .1 .1 .1 .1 .1 .1 .0);
-        output-cursor = omega (arith, b .1 .1 .1 .1 .1 .1 .1 .1 .1 .1 .1 .1 .0);
+        arp = omega (arith, cell-fits f 5);
+        arb = omega (arith, cell-fits f 6);
+        dp = omega (arith, cell-fits f 7);
+        pm = omega (arith, cell-fits f 8);
+        ov = omega (arith, cell-fits f 9);
+        ovm = omega (arith, cell-fits f 10);
+        sxm = omega (arith, cell-fits f 11);
+        c = omega (arith, cell-fits f 12);
+        cnf = omega (arith, cell-fits f 13);
+        mid = omega (arith, cell-fits f 14);
+        rptc = omega (arith, cell-fits f 15);
+        input-cursor = omega (arith, cell-fits f 16);
+        output-cursor = omega (arith, cell-fits f 17);
       })
 
   fits-sized : WordSized m
   fits-sized = record {
-    acc = f .below .0;
-    p = f .below .1 .0;
-    t = f .below .1 .1 .0;
-    pc = f .below .1 .1 .1 .0;
-    pfc = f .below .1 .1 .1 .1 .0;
+    acc = cell-fits f 0;
+    p = cell-fits f 1;
+    t = cell-fits f 2;
+    pc = cell-fits f 3;
+    pfc = cell-fits f 4;
     ar = f .ar;
     ar-count = f .ar-count;
     stack = f .stack;
@@ -150,15 +114,14 @@ module _ {i o : ℕ} {m : Machine} (f : Fits i o m) (hi : i ≤ 1024) (ho : o �
   fits-slices : (rom «data» input : List ℕ) → length rom ≡ 4096 → length «data» ≡ 4096 → length input ≡ i → slicesFit m rom «data» input o ≡ true
   unfolding slicesFit memoriesFit portFits
   fits-slices rom «data» input hr hd e =
-      let b = f .below .1 .1 .1 .1 .1 .1 .1 .1 .1 .1 .1 .1 .1 .1 .1 .1 in
       simp (
         eq-eqb _ _ hr,
         eq-eqb _ _ hd,
         e,
         le-leb i 1024 hi,
-        le-leb (m .«input_cursor») i (omega (arith, b .0)),
+        le-leb (m .«input_cursor») i (omega (arith, cell-fits f 16)),
         le-leb o 1024 ho,
-        le-leb (m .«output_cursor») o (omega (arith, b .1 .0)),
+        le-leb (m .«output_cursor») o (omega (arith, cell-fits f 17)),
       )
 
 -- ---- what follows a pass, and its store
@@ -176,7 +139,7 @@ followed-keeps : {i o : ℕ} {m : Machine} (jump : Jump) (words : ℕ) (repeatab
 unfolding followed
 followed-keeps {i} {o} {m} jump words repeatable f h =
     either (repeatable && ltb 0 (m .rptc))
-    (set-mid (set-rptc f (omega (arith, rptc-fits f))) (omega arith))
+    (set-mid (set-rptc f (omega (arith, cell-fits f 15))) (omega arith))
     (set-pc (set-mid f (omega arith)) (destination-lt jump (m .pc) words h))
 
 -- the word of a store is of 16 bits
@@ -266,14 +229,18 @@ module _ (rom input : List ℕ) (w : World) (k : WorldInRange rom input w) (e : 
         output-words = after .output-words;
       })
 
+  table : Decoded → List Row
+  table c = tableFor c rom (w .«data») input (length (w .output)) (w .m)
+
   decoded-in-range : (c : Decoded) → decodedAt rom (w .«data») (w .m) ≡ c → DecodedFits c
-      → NoneHolds (tableFor c rom (w .«data») input (length (w .output)) (w .m)) → WorldInRange rom input (stepOf rom input w .world)
-  unfolding tableFor
-  decoded-in-range (Base x) c g n = base-in-range x c g (n .1 .1 .1 .1 .1 .1 .1 .1 .1 .1 .1 .0)
-  decoded-in-range Published c g n = absurd (false≢true (sym (n .1 .1 .1 .1 .0)))
-  decoded-in-range Nothing c g n = absurd (false≢true (sym (n .1 .1 .1 .0)))
+      → NoneHolds (table c) → WorldInRange rom input (stepOf rom input w .world)
+  unfolding table tableFor
+  decoded-in-range (Base x) c g n = base-in-range x c g (row-not (table (Base x)) 11 n)
+  decoded-in-range Published c g n = absurd (false≢true (sym (row-not (table Published) 4 n)))
+  decoded-in-range Nothing c g n = absurd (false≢true (sym (row-not (table Nothing) 3 n)))
 
   done-in-range : WorldInRange rom input (stepOf rom input w .world)
+  unfolding table
   done-in-range = decoded-in-range (decodedAt rom (w .«data») (w .m)) refl (fields-at rom (w .«data») (w .m)) (row-given rom input w .done-only e)
 
 pub step-in-range : StepInRange
@@ -281,64 +248,3 @@ step-in-range rom input w k =
     by-first rom input w
     (λ d. done-in-range rom input w k (done-is _ d))
     (λ r. rw (refused-unchanged rom input w r) k)
-
--- ---- runs
-
--- an answer that is neither 1 nor 2
-pub record Other (a : Answer) : Type 0 where
-  pub not-1 : numberOf a ≡ 1 → ⊥
-  pub not-2 : numberOf a ≡ 2 → ⊥
-
-passed-over : (a : Answer) (given : Bool) (rows : List Row) → given ≡ false → Other (firstGiven rows) → Other (firstGiven (row a given ∷ rows))
-unfolding firstGiven
-passed-over a given rows h n = rw h n
-
-other-row : (a : Answer) (given : Bool) (rows : List Row) → Other a → Other (firstGiven rows) → Other (firstGiven (row a given ∷ rows))
-unfolding firstGiven
-other-row a true rows h n = h
-other-row a false rows h n = n
-
-none-left : Other (firstGiven [])
-unfolding firstGiven
-none-left = record { not-1 = λ e. omega arith; not-2 = λ e. omega arith }
-
-table-other : (c : Decoded) (rom «data» input : List ℕ) (o : ℕ) (m : Machine) → inRange m ≡ true → slicesFit m rom «data» input o ≡ true
-    → Other (firstGiven (tableFor c rom «data» input o m))
-unfolding tableFor
-table-other c rom «data» input o m h k =
-    passed-over _ _ _ (ap not h)
-    (passed-over _ _ _ (ap not k)
-    (other-row _ _ _ (record { not-1 = λ e. omega arith; not-2 = λ e. omega arith })
-    (other-row _ _ _ (record { not-1 = λ e. omega arith; not-2 = λ e. omega arith })
-    (other-row _ _ _ (record { not-1 = λ e. omega arith; not-2 = λ e. omega arith })
-    (other-row _ _ _ (record { not-1 = λ e. omega arith; not-2 = λ e. omega arith })
-    (other-row _ _ _ (record { not-1 = λ e. omega arith; not-2 = λ e. omega arith })
-    (other-row _ _ _ (record { not-1 = λ e. omega arith; not-2 = λ e. omega arith })
-    (other-row _ _ _ (record { not-1 = λ e. omega arith; not-2 = λ e. omega arith })
-    (other-row _ _ _ (record { not-1 = λ e. omega arith; not-2 = λ e. omega arith })
-    (other-row _ _ _ (record { not-1 = λ e. omega arith; not-2 = λ e. omega arith })
-    (other-row _ _ _ (record { not-1 = λ e. omega arith; not-2 = λ e. omega arith }) none-left)))))))))))
-
-checks-other : (rom «data» input : List ℕ) (o : ℕ) (m : Machine) → inRange m ≡ true → slicesFit m rom «data» input o ≡ true → Other (checksOf rom «data» input o m)
-unfolding checksOf
-checks-other rom «data» input o m h k = passed-over _ _ _ (ap not h) (passed-over _ _ _ (ap not k) none-left)
-
-module _ (rom input : List ℕ) where
-  step-other : (w : World) → WorldInRange rom input w → Other (stepOf rom input w .answer)
-  step-other w k = rw (step-answer rom input w) (table-other (decodedAt rom (w .«data») (w .m)) rom (w .«data») input (length (w .output)) (w .m) (k .in-range) (k .slices-fit))
-
-  run-keeps : (n : ℕ) (w : World) → WorldInRange rom input w → RunInRange rom input n w
-  run-keeps zero w k =
-      let other = checks-other rom (w .«data») input (length (w .output)) (w .m) (k .in-range) (k .slices-fit) in
-      record { world-in-range = rw (run-none rom input w) k; never-1 = rw (run-none rom input w) (other .not-1); never-2 = rw (run-none rom input w) (other .not-2) }
-  run-keeps (suc n) w k =
-      by-first rom input w
-      (λ d.
-      let r = run-keeps n (stepOf rom input w .world) (step-in-range rom input w k) in
-      record { world-in-range = rw (run-done rom input n w d) (r .world-in-range); never-1 = rw (run-done rom input n w d) (r .never-1); never-2 = rw (run-done rom input n w d) (r .never-2) })
-      (λ d.
-      let other = step-other w k in
-      record { world-in-range = rw (run-refused rom input n w d) k; never-1 = rw (run-refused rom input n w d) (other .not-1); never-2 = rw (run-refused rom input n w d) (other .not-2) })
-
-pub runs-in-range : RunsInRange
-runs-in-range rom input budget w k = run-keeps rom input budget w k

@@ -9,7 +9,7 @@ use lib.Bits.{differ}
 use lib.IntN.{ℤ, pos, negsuc, _-ℤ_}
 use lib.Signed.{shrZ}
 use borrow.Author.Tests.{ltb-true}
-use Rattle.words.specs.Word.{signed, low}
+use Rattle.words.specs.Word.{signed}
 use Rattle.words.specs.WordLaws.{low-lt}
 use Rattle.words.specs.declared.sums.Sum.{Sum}
 use Rattle.words.specs.declared.shifts.Shifted.{Shifted}
