@@ -1,0 +1,133 @@
+-- The laws of steps and runs, as statements.
+use mathlib.Core.Path.{_≡_}
+use mathlib.Core.Bool.{true, false}
+use mathlib.Core.List.{List, [], _∷_, _++_}
+use Prim.Native.Nat.{ℕ, zero, suc, _+_, _≤_, _<_}
+use lib.ListN.{length}
+use Rattle.words.specs.Registers.{wrappedSum}
+use Rattle.machine.specs.Cells.{withPc, withMid, withRptc}
+use Rattle.instructions.specs.declared.Instruction.{Instruction}
+use Rattle.instructions.specs.declared.Decoded.the-variants.{Base}
+use Rattle.traits.specs.Pages.{traitsOf}
+use Rattle.passes.specs.declared.Effect.{Effect}
+use Rattle.answers.specs.declared.Answer.{Answer}
+use Rattle.answers.specs.declared.Answer.the-variants.{Done}
+use Rattle.answers.specs.Numbers.{numberOf, isDone}
+use Rattle.plans.specs.declared.Write.{Write}
+use Rattle.plans.specs.Rows.{Row, row}
+use Rattle.plans.specs.Pass.{effectOf, passedWrite, dataAfter, outputAfter}
+use Rattle.emulator.specs.World.{World, RunOutcome}
+use Rattle.emulator.specs.Table.{decodedAt, secondWord, tableFor, checksOf}
+use Rattle.emulator.specs.Step.{stepOf, runOf}
+
+-- ---- a refused step
+
+-- "A refusal returns the state given, and data, output and cursors hold what they held before that step."
+abbrev pub RefusedUnchanged : Type 0
+RefusedUnchanged = (rom input : List ℕ) (w : World) → isDone (stepOf rom input w .answer) ≡ false → stepOf rom input w .world ≡ w
+
+-- ---- the answers
+
+-- 0 to 10 are the numbers of a step and of a run in the table "Numbers that come back"
+abbrev pub AnswersOfAStep : Type 0
+AnswersOfAStep = (rom input : List ℕ) (w : World) → numberOf (stepOf rom input w .answer) ≤ 10
+
+abbrev pub AnswersOfARun : Type 0
+AnswersOfARun = (rom input : List ℕ) (budget : ℕ) (w : World) → numberOf (runOf rom input budget w .answer) ≤ 10
+
+-- ---- the rows of the table of answers
+
+-- the table of a step, in its order
+abbrev pub rowsOf : List ℕ → List ℕ → World → List Row
+rowsOf rom input w = tableFor (decodedAt rom (w .«data») (w .m)) rom (w .«data») input (length (w .output)) (w .m)
+
+-- no row's condition holds
+abbrev pub NoneHolds : List Row → Type 0
+NoneHolds [] = Unit {0}
+NoneHolds (r ∷ rows) = (r .given ≡ false) × NoneHolds rows
+
+-- a is the answer of a row whose condition holds, and no earlier row's does
+pub record GivenBy (a : Answer) (rows : List Row) : Type 0 where
+  pub earlier : List Row
+  pub later-rows : List Row
+  pub in-order : rows ≡ earlier ++ (row a true ∷ later-rows)
+  pub none-earlier : NoneHolds earlier
+
+-- "Given exactly when": a row's answer is given exactly when its condition holds and no earlier row's does, and 0 exactly when no row's does
+pub record RowGiven (rom input : List ℕ) (w : World) : Type 0 where
+  pub given-by : (a : Answer) → GivenBy a (rowsOf rom input w) → stepOf rom input w .answer ≡ a
+  pub only-by : (a : Answer) → isDone a ≡ false → stepOf rom input w .answer ≡ a → GivenBy a (rowsOf rom input w)
+  pub done-by : NoneHolds (rowsOf rom input w) → stepOf rom input w .answer ≡ Done
+  pub done-only : stepOf rom input w .answer ≡ Done → NoneHolds (rowsOf rom input w)
+
+-- ---- runs
+
+-- the world after k steps, refused or not
+unfoldable pub worldAfter : List ℕ → List ℕ → ℕ → World → World
+worldAfter rom input zero w = w
+worldAfter rom input (suc k) w = worldAfter rom input k (stepOf rom input w .world)
+
+-- the first k steps are done
+unfoldable pub AllDone : List ℕ → List ℕ → ℕ → World → Type 0
+AllDone rom input zero w = Unit {0}
+AllDone rom input (suc k) w = (isDone (stepOf rom input w .answer) ≡ true) × AllDone rom input k (stepOf rom input w .world)
+
+-- "stops at the first refused step, and reports the steps done (the refused one not counted) and the last answer"
+pub record RunIs (rom input : List ℕ) (budget : ℕ) (w : World) : Type 0 where
+  -- the refused step adds nothing to the run's world and count
+  pub refused-after : (k : ℕ) → k < budget → AllDone rom input k w → isDone (stepOf rom input (worldAfter rom input k w) .answer) ≡ false
+      → runOf rom input budget w
+      ≡ record { world = worldAfter rom input k w; steps = k; answer = stepOf rom input (worldAfter rom input k w) .answer }
+  pub all-done : AllDone rom input budget w
+      → runOf rom input budget w
+      ≡ record {
+        world = worldAfter rom input budget w;
+        steps = budget;
+        answer = checksOf rom (worldAfter rom input budget w .«data») input (length (worldAfter rom input budget w .output)) (worldAfter rom input budget w .m);
+      }
+
+-- a run after some steps
+abbrev pub continued : ℕ → RunOutcome → RunOutcome
+continued steps r = record { world = r .world; steps = steps + r .steps; answer = r .answer }
+
+-- a run of a + b is the run of a and then of b, where the first is not refused; else it is the run of a
+pub record RunsAdd (rom input : List ℕ) (a b : ℕ) (w : World) : Type 0 where
+  pub first-done : isDone (runOf rom input a w .answer) ≡ true
+      → runOf rom input (a + b) w ≡ continued a (runOf rom input b (runOf rom input a w .world))
+  pub first-refused : isDone (runOf rom input a w .answer) ≡ false → runOf rom input (a + b) w ≡ runOf rom input a w
+
+-- ---- a repeated instruction
+
+-- what the rule of an instruction makes of a world, and what it stores
+abbrev pub effectAt : List ℕ → List ℕ → World → Instruction → Effect
+effectAt rom input w i = effectOf i (secondWord i rom (w .«data») (w .m)) rom (w .«data») input (w .m)
+
+abbrev pub writeAt : List ℕ → List ℕ → World → Instruction → Write
+writeAt rom input w i = passedWrite i (secondWord i rom (w .«data») (w .m)) rom (w .«data») input (w .m)
+
+-- the world with another RPTC
+abbrev pub recounted : World → ℕ → World
+recounted w n = record { m = withRptc (w .m) n; «data» = w .«data»; output = w .output }
+
+-- what was worked: RPTC, MID and PC are left out
+abbrev pub workOf : World → World
+workOf w = record { m = withPc (withMid (withRptc (w .m) 0) 0) 0; «data» = w .«data»; output = w .output }
+
+-- a pass of a repeatable instruction
+pub record PassWorks (rom input : List ℕ) (w : World) (i : Instruction) : Type 0 where
+  -- "If RPTC is above 0 .. RPTC falls by 1, MID becomes 1 and PC stays"; every other cell is what the rule makes of it
+  pub goes-on : (n : ℕ) → w .m .rptc ≡ suc n → stepOf rom input w .world .m ≡ withMid (withRptc (withPc (effectAt rom input w i .m) (w .m .pc)) n) 1
+  -- "otherwise MID becomes 0 and PC moves past the instruction's words"
+  pub ends : w .m .rptc ≡ 0
+      → stepOf rom input w .world .m ≡ withPc (withMid (withRptc (effectAt rom input w i .m) 0) 0) (wrappedSum (w .m .pc) (traitsOf i .words))
+  -- the store is the rule's
+  pub stores-data : stepOf rom input w .world .«data» ≡ dataAfter (writeAt rom input w i) (w .«data»)
+  pub stores-output : stepOf rom input w .world .output ≡ outputAfter (writeAt rom input w i) (w .output)
+  -- whatever RPTC is, the pass is done, and works the same: none only counts
+  pub any-count : (n : ℕ) → n ≤ 255 → stepOf rom input (recounted w n) .answer ≡ Done
+  pub same-work : (n : ℕ) → n ≤ 255 → workOf (stepOf rom input (recounted w n) .world) ≡ workOf (stepOf rom input w .world)
+
+-- "a repeat that works in its first pass and only counts the rest" is ruled out
+abbrev pub EveryPassWorks : Type 0
+EveryPassWorks = (rom input : List ℕ) (w : World) (i : Instruction) → decodedAt rom (w .«data») (w .m) ≡ Base i → traitsOf i .repeatable ≡ true
+    → stepOf rom input w .answer ≡ Done → PassWorks rom input w i

@@ -1,0 +1,6 @@
+-- definitions
+pub mod Laws
+-- proofs
+pub mod Steps
+pub mod Runs
+pub mod Repeats

@@ -1,0 +1,338 @@
+-- What every pass of a repeatable instruction does: proofs.
+use mathlib.Core.Path.{_≡_, refl, sym, _∙_, ap}
+use mathlib.Core.Bool.{Bool, true, false, not, cond, _&&_, false≢true}
+use mathlib.Core.List.{List}
+use Prim.Native.Nat.{ℕ, suc, _-_, _≤_}
+use native.Mathlib.Omega.{arith}
+use lib.Dec.{ltb}
+use lib.ListN.{length}
+use borrow.Author.Tests.{lt-ltb, not-false}
+use Rattle.words.specs.Registers.{wrappedSum}
+use Rattle.machine.specs.declared.Machine.{Machine}
+use Rattle.machine.specs.Cells.{withPc, withMid, withRptc}
+use Rattle.machine.specs.Range.{inRange}
+use Rattle.machine.specs.RangeLaws.{ranged, in-range}
+use Rattle.answers.specs.declared.Answer.the-variants.{Done}
+use Rattle.instructions.specs.declared.Instruction.{Instruction}
+use Rattle.instructions.specs.declared.Instruction.the-variants as Family
+use Rattle.instructions.specs.declared.Accumulator.{Accumulator}
+use Rattle.instructions.specs.declared.Accumulator.the-variants as Accumulator
+use Rattle.accumulator.specs.Rule.{accumulatorRule}
+use Rattle.instructions.specs.declared.Multiplier.{Multiplier}
+use Rattle.instructions.specs.declared.Multiplier.the-variants as Multiplier
+use Rattle.multiplier.specs.Rule.{multiplierRule}
+use Rattle.instructions.specs.declared.Auxiliary.{Auxiliary}
+use Rattle.instructions.specs.declared.Auxiliary.the-variants as Auxiliary
+use Rattle.auxiliary.specs.Rule.{auxiliaryRule}
+use Rattle.instructions.specs.declared.Modes.{Modes}
+use Rattle.instructions.specs.declared.Modes.the-variants as Modes
+use Rattle.modes.specs.Rule.{modesRule}
+use Rattle.instructions.specs.declared.Branches.{Branches}
+use Rattle.instructions.specs.declared.Branches.the-variants as Branches
+use Rattle.branches.specs.Rule.{branchesRule}
+use Rattle.instructions.specs.declared.Transfers.{Transfers}
+use Rattle.instructions.specs.declared.Transfers.the-variants as Transfers
+use Rattle.transfers.specs.Rule.{transfersRule}
+use Rattle.accumulator.specs.Pages.{ADD, SUB, LAC, ADDH, ADDS, SUBH, SUBS, SUBC, ZALH, ZALS, AND, OR, XOR, SACL, SACH, LACK, ADDK, SUBK, CMPL, NEG, ABS, SFL, SFR}
+use Rattle.multiplier.specs.Pages.{tableAddress, LT, LTA, LTP, LTD, LTS, MPY, MPYA, MPYS, MPYK, SQRA, SQRS, MAC, MACD, PAC, APAC, SPAC, SPL, SPH, SPM}
+use Rattle.auxiliary.specs.Pages.{LAR, SAR, LARK, MAR, ADRK, SBRK, LDP, LDPK}
+use Rattle.modes.specs.Pages.{SOVM, ROVM, SSXM, RSXM, CNFD, CNFP, RPT, RPTK, PUSH, POP}
+use Rattle.transfers.specs.Pages.{DMOV, IN, OUT}
+use Rattle.instructions.specs.declared.Decoded.the-variants.{Base}
+use Rattle.instructions.specs.declared.NextArp.{NextArp}
+use Rattle.instructions.specs.declared.NextArp.the-variants.{Same, To}
+use Rattle.instructions.specs.declared.Indirect.{Indirect}
+use Rattle.instructions.specs.declared.Address.the-variants as Mode
+use Rattle.passes.specs.declared.Effect.{Effect}
+use Rattle.passes.specs.declared.Jump.the-variants as Jump
+use Rattle.passes.specs.Passes.{destination, followed}
+use Rattle.traits.specs.declared.Operand.{Operand}
+use Rattle.traits.specs.declared.Operand.the-variants as Operand
+use Rattle.traits.specs.declared.Traits.{Traits}
+use Rattle.traits.specs.Pages.{accumulatorTraits, multiplierTraits, auxiliaryTraits, branchesTraits, transfersTraits, modesTraits, traitsOf}
+use Rattle.addressing.specs.Addressing.{pointed, modified, addressed, addressOf}
+use Rattle.rules.specs.declared.Words.{Words}
+use Rattle.rules.specs.Rules.{ruleOf}
+use Rattle.board.specs.Slices.{slicesFit}
+use Rattle.plans.specs.Pass.{addressAbove, dataAbsent, tableAbsent, outputFull, wordsRead, effectOf, passedMachine, passedWrite, performed, dataAfter, outputAfter}
+use Rattle.emulator.specs.World.{World}
+use Rattle.emulator.specs.Table.{decodedAt, secondAddress, secondWord, notRepeatable, secondAbsent, tableFor}
+use Rattle.emulator.specs.Step.{stored, stepOf}
+use Rattle.laws.specs.Laws.{rowsOf, NoneHolds, recounted, workOf, effectAt, writeAt, PassWorks, EveryPassWorks}
+use Rattle.laws.specs.Steps.{_and_, row-not, step-world, row-given}
+
+-- the machine with another RPTC and another PC
+abbrev placed : Machine → ℕ → ℕ → Machine
+placed m n pc = withPc (withRptc m n) pc
+
+-- what a rule gives that neither reads nor changes RPTC and PC, and sends PC nowhere
+abbrev uncounted : Effect → ℕ → ℕ → Effect
+uncounted e n pc = record { m = placed (e .m) n pc; store = e .store; jump = Jump.Past }
+
+accumulator-placed : (i : Accumulator) (m : Machine) (w : ℕ) (n pc : ℕ) → accumulatorTraits i .repeatable ≡ true
+    → accumulatorRule i (placed m n pc) w ≡ uncounted (accumulatorRule i m w) n pc
+unfolding accumulatorTraits accumulatorRule ADD SUB LAC ADDH ADDS SUBH SUBS SUBC ZALH ZALS AND OR XOR SACL SACH LACK ADDK SUBK CMPL NEG ABS SFL SFR
+accumulator-placed (Accumulator.Add k a) m w n pc h = refl
+accumulator-placed (Accumulator.Sub k a) m w n pc h = refl
+accumulator-placed (Accumulator.Lac k a) m w n pc h = refl
+accumulator-placed (Accumulator.Addh a) m w n pc h = refl
+accumulator-placed (Accumulator.Adds a) m w n pc h = refl
+accumulator-placed (Accumulator.Subh a) m w n pc h = refl
+accumulator-placed (Accumulator.Subs a) m w n pc h = refl
+accumulator-placed (Accumulator.Subc a) m w n pc h = refl
+accumulator-placed (Accumulator.Zalh a) m w n pc h = refl
+accumulator-placed (Accumulator.Zals a) m w n pc h = refl
+accumulator-placed (Accumulator.And a) m w n pc h = refl
+accumulator-placed (Accumulator.Or a) m w n pc h = refl
+accumulator-placed (Accumulator.Xor a) m w n pc h = refl
+accumulator-placed (Accumulator.Sacl k a) m w n pc h = refl
+accumulator-placed (Accumulator.Sach k a) m w n pc h = refl
+accumulator-placed (Accumulator.Lack k) m w n pc h = absurd (false≢true h)
+accumulator-placed (Accumulator.Addk k) m w n pc h = absurd (false≢true h)
+accumulator-placed (Accumulator.Subk k) m w n pc h = absurd (false≢true h)
+accumulator-placed Accumulator.Cmpl m w n pc h = refl
+accumulator-placed Accumulator.Neg m w n pc h = refl
+accumulator-placed Accumulator.Abs m w n pc h = refl
+accumulator-placed Accumulator.Sfl m w n pc h = refl
+accumulator-placed Accumulator.Sfr m w n pc h = refl
+
+multiplier-placed : (i : Multiplier) (m : Machine) (w table at : ℕ) (n pc : ℕ) → multiplierTraits i .repeatable ≡ true
+    → multiplierRule i (placed m n pc) w table at ≡ uncounted (multiplierRule i m w table at) n pc
+unfolding multiplierTraits multiplierRule LT LTA LTP LTD LTS MPY MPYA MPYS MPYK SQRA SQRS MAC MACD PAC APAC SPAC SPL SPH SPM
+multiplier-placed (Multiplier.Lt a) m w table at n pc h = refl
+multiplier-placed (Multiplier.Lta a) m w table at n pc h = refl
+multiplier-placed (Multiplier.Ltp a) m w table at n pc h = refl
+multiplier-placed (Multiplier.Ltd a) m w table at n pc h = refl
+multiplier-placed (Multiplier.Lts a) m w table at n pc h = refl
+multiplier-placed (Multiplier.Mpy a) m w table at n pc h = refl
+multiplier-placed (Multiplier.Mpya a) m w table at n pc h = refl
+multiplier-placed (Multiplier.Mpys a) m w table at n pc h = refl
+multiplier-placed (Multiplier.Mpyk k) m w table at n pc h = absurd (false≢true h)
+multiplier-placed (Multiplier.Sqra a) m w table at n pc h = refl
+multiplier-placed (Multiplier.Sqrs a) m w table at n pc h = refl
+multiplier-placed (Multiplier.Mac a) m w table at n pc h = refl
+multiplier-placed (Multiplier.Macd a) m w table at n pc h = refl
+multiplier-placed Multiplier.Pac m w table at n pc h = refl
+multiplier-placed Multiplier.Apac m w table at n pc h = refl
+multiplier-placed Multiplier.Spac m w table at n pc h = refl
+multiplier-placed (Multiplier.Spl a) m w table at n pc h = refl
+multiplier-placed (Multiplier.Sph a) m w table at n pc h = refl
+multiplier-placed (Multiplier.Spm k) m w table at n pc h = absurd (false≢true h)
+
+auxiliary-placed : (i : Auxiliary) (before m : Machine) (w : ℕ) (n pc : ℕ) → auxiliaryTraits i .repeatable ≡ true
+    → auxiliaryRule i (placed before n pc) (placed m n pc) w ≡ uncounted (auxiliaryRule i before m w) n pc
+unfolding auxiliaryTraits auxiliaryRule LAR SAR LARK MAR ADRK SBRK LDP LDPK
+auxiliary-placed (Auxiliary.Lar k a) before m w n pc h = refl
+auxiliary-placed (Auxiliary.Sar k a) before m w n pc h = refl
+auxiliary-placed (Auxiliary.Lark r k) before m w n pc h = absurd (false≢true h)
+auxiliary-placed (Auxiliary.Mar a) before m w n pc h = refl
+auxiliary-placed (Auxiliary.Adrk k) before m w n pc h = absurd (false≢true h)
+auxiliary-placed (Auxiliary.Sbrk k) before m w n pc h = absurd (false≢true h)
+auxiliary-placed (Auxiliary.Ldp a) before m w n pc h = refl
+auxiliary-placed (Auxiliary.Ldpk k) before m w n pc h = absurd (false≢true h)
+
+modes-placed : (i : Modes) (m : Machine) (w : ℕ) (n pc : ℕ) → modesTraits i .repeatable ≡ true
+    → modesRule i (placed m n pc) w ≡ uncounted (modesRule i m w) n pc
+unfolding modesTraits modesRule SOVM ROVM SSXM RSXM CNFD CNFP RPT RPTK PUSH POP
+modes-placed Modes.Sovm m w n pc h = refl
+modes-placed Modes.Rovm m w n pc h = refl
+modes-placed Modes.Ssxm m w n pc h = refl
+modes-placed Modes.Rsxm m w n pc h = refl
+modes-placed Modes.Cnfd m w n pc h = refl
+modes-placed Modes.Cnfp m w n pc h = refl
+modes-placed (Modes.Rpt a) m w n pc h = absurd (false≢true h)
+modes-placed (Modes.Rptk k) m w n pc h = absurd (false≢true h)
+modes-placed Modes.Push m w n pc h = refl
+modes-placed Modes.Pop m w n pc h = refl
+
+branches-placed : (i : Branches) (before m : Machine) (pma : ℕ) (n pc : ℕ) → branchesTraits i .repeatable ≡ true
+    → branchesRule i (placed before n pc) (placed m n pc) pma ≡ uncounted (branchesRule i before m pma) n pc
+unfolding branchesTraits branchesRule
+branches-placed (Branches.B i) before m pma n pc h = absurd (false≢true h)
+branches-placed (Branches.Banz i) before m pma n pc h = absurd (false≢true h)
+branches-placed (Branches.Bz i) before m pma n pc h = absurd (false≢true h)
+branches-placed (Branches.Bnz i) before m pma n pc h = absurd (false≢true h)
+branches-placed (Branches.Bgz i) before m pma n pc h = absurd (false≢true h)
+branches-placed (Branches.Bgez i) before m pma n pc h = absurd (false≢true h)
+branches-placed (Branches.Blz i) before m pma n pc h = absurd (false≢true h)
+branches-placed (Branches.Blez i) before m pma n pc h = absurd (false≢true h)
+branches-placed (Branches.Bv i) before m pma n pc h = absurd (false≢true h)
+branches-placed (Branches.Bnv i) before m pma n pc h = absurd (false≢true h)
+branches-placed (Branches.Call i) before m pma n pc h = absurd (false≢true h)
+branches-placed Branches.Ret before m pma n pc h = absurd (false≢true h)
+
+transfers-placed : (i : Transfers) (m : Machine) (w : ℕ) (dry : Bool) (next : ℕ) (n pc : ℕ) → transfersTraits i .repeatable ≡ true
+    → transfersRule i (placed m n pc) w dry next ≡ uncounted (transfersRule i m w dry next) n pc
+unfolding transfersTraits transfersRule DMOV IN OUT
+transfers-placed (Transfers.Dmov a) m w dry next n pc h = refl
+transfers-placed (Transfers.In port a) m w true next n pc h = refl
+transfers-placed (Transfers.In port a) m w false next n pc h = refl
+transfers-placed (Transfers.Out port a) m w dry next n pc h = refl
+
+rule-placed : (i : Instruction) (before m : Machine) (words : Words) (n pc : ℕ) → traitsOf i .repeatable ≡ true
+    → ruleOf i (placed before n pc) (placed m n pc) words ≡ uncounted (ruleOf i before m words) n pc
+unfolding traitsOf ruleOf
+rule-placed (Family.Accumulator i) before m words n pc h = accumulator-placed i m (words .operand) n pc h
+rule-placed (Family.Multiplier i) before m words n pc h = multiplier-placed i m (words .operand) (words .table) (words .at) n pc h
+rule-placed (Family.Auxiliary i) before m words n pc h = auxiliary-placed i before m (words .operand) n pc h
+rule-placed (Family.Branches i) before m words n pc h = branches-placed i before m (words .second) n pc h
+rule-placed (Family.Transfers i) before m words n pc h = transfers-placed i m (words .operand) (words .dry) (words .next) n pc h
+rule-placed (Family.Modes i) before m words n pc h = modes-placed i m (words .operand) n pc h
+
+-- ---- operands and words read
+
+pointed-placed : (next : NextArp) (m : Machine) (n pc : ℕ) → pointed next (placed m n pc) ≡ placed (pointed next m) n pc
+unfolding pointed
+pointed-placed Same m n pc = refl
+pointed-placed (To arp) m n pc = refl
+
+addressed-placed : (o : Operand) (m : Machine) (n pc : ℕ) → addressed o (placed m n pc) ≡ placed (addressed o m) n pc
+unfolding addressed modified
+addressed-placed Operand.Nothing m n pc = refl
+addressed-placed (Operand.At (Mode.Direct offset)) m n pc = refl
+addressed-placed (Operand.At (Mode.Indirect operand)) m n pc = pointed-placed (operand .next) _ n pc
+
+address-placed : (o : Operand) (m : Machine) (n pc : ℕ) → addressOf o (placed m n pc) ≡ addressOf o m
+unfolding addressOf
+address-placed Operand.Nothing m n pc = refl
+address-placed (Operand.At (Mode.Direct offset)) m n pc = refl
+address-placed (Operand.At (Mode.Indirect operand)) m n pc = refl
+
+words-placed : (t : Traits) (second : ℕ) (rom «data» input : List ℕ) (m : Machine) (n pc : ℕ) → wordsRead t second rom «data» input (placed m n pc) ≡ wordsRead t second rom «data» input m
+unfolding wordsRead tableAddress
+words-placed t second rom «data» input m n pc = rw (address-placed (t .operand) m n pc)
+
+-- ---- the pass
+
+module _ (i : Instruction) (h : traitsOf i .repeatable ≡ true) (second : ℕ) (rom «data» input : List ℕ) (m : Machine) where
+  effect-placed : (n pc : ℕ) → effectOf i second rom «data» input (placed m n pc) ≡ uncounted (effectOf i second rom «data» input m) n pc
+  unfolding effectOf
+  effect-placed n pc =
+      rw (addressed-placed (traitsOf i .operand) m n pc, words-placed (traitsOf i) second rom «data» input m n pc)
+      (rule-placed i m (addressed (traitsOf i .operand) m) (wordsRead (traitsOf i) second rom «data» input m) n pc h)
+
+  -- the machine after the pass, with RPTC n before it
+  passed-with : (n : ℕ) → passedMachine i second rom «data» input (placed m n (m .pc))
+      ≡ followed (placed (effectOf i second rom «data» input m .m) n (m .pc)) Jump.Past (traitsOf i .words) true
+  unfolding passedMachine
+  passed-with n = rw (effect-placed n (m .pc), h)
+
+  written-with : (n : ℕ) → passedWrite i second rom «data» input (placed m n (m .pc)) ≡ passedWrite i second rom «data» input m
+  unfolding passedWrite
+  written-with n = rw (effect-placed n (m .pc), address-placed (traitsOf i .operand) m n (m .pc))
+
+follows-on : (m : Machine) (n pc words : ℕ) → followed (placed m (suc n) pc) Jump.Past words true ≡ withMid (withRptc (withPc m pc) n) 1
+unfolding followed
+follows-on m n pc words =
+    let a : ltb 0 (suc n) ≡ true = lt-ltb 0 (suc n) (omega arith) in
+    let b : suc n - 1 ≡ n = omega arith in
+    rw (a, b)
+
+follows-last : (m : Machine) (pc words : ℕ) → followed (placed m 0 pc) Jump.Past words true ≡ withPc (withMid (withRptc m 0) 0) (wrappedSum pc words)
+unfolding followed destination
+follows-last m pc words = refl
+
+follows-work : (m : Machine) (n pc words : ℕ) → withPc (withMid (withRptc (followed (placed m n pc) Jump.Past words true) 0) 0) 0 ≡ withPc (withMid (withRptc m 0) 0) 0
+unfolding followed
+follows-work m n pc words = by (ltb 0 n) _ _
+  where
+    by : (t : Bool) (k at : ℕ)
+        → withPc (withMid (withRptc (cond t (withMid (withRptc (placed m n pc) k) 1) (withPc (withMid (placed m n pc) 0) at)) 0) 0) 0
+        ≡ withPc (withMid (withRptc m 0) 0) 0
+    by true k at = refl
+    by false k at = refl
+
+-- ---- the step
+
+never : (t : Bool) → t && false ≡ false
+never true = refl
+never false = refl
+
+module _ (rom input : List ℕ) (w : World) (i : Instruction) (d : decodedAt rom (w .«data») (w .m) ≡ Base i) (h : traitsOf i .repeatable ≡ true)
+    (e : stepOf rom input w .answer ≡ Done) (n : ℕ) (l : n ≤ 255) where
+  decoded-recounted : decodedAt rom (w .«data») (withRptc (w .m) n) ≡ Base i
+  unfolding decodedAt
+  decoded-recounted = d
+
+  none-recounted : NoneHolds (tableFor (Base i) rom (w .«data») input (length (w .output)) (w .m)) → NoneHolds (tableFor (Base i) rom (w .«data») input (length (w .output)) (withRptc (w .m) n))
+  unfolding tableFor slicesFit notRepeatable secondAbsent secondAddress secondWord addressAbove dataAbsent tableAbsent tableAddress outputFull
+  none-recounted o =
+      let rows = tableFor (Base i) rom (w .«data») input (length (w .output)) (w .m) in
+      let r = ranged (w .m) (not-false _ (row-not rows 0 o)) in
+      let a = address-placed (traitsOf i .operand) (w .m) n (w .m .pc) in
+      let fits : inRange (withRptc (w .m) n) ≡ true = in-range (withRptc (w .m) n) (record {
+        arp = r .arp;
+        arb = r .arb;
+        dp = r .dp;
+        pm = r .pm;
+        ov = r .ov;
+        ovm = r .ovm;
+        sxm = r .sxm;
+        c = r .c;
+        cnf = r .cnf;
+        mid = r .mid;
+        rptc = l;
+        input-cursor = r .input-cursor;
+        output-cursor = r .output-cursor;
+      }) in
+      ap not fits
+      and row-not rows 1 o
+      and row-not rows 2 o
+      and refl
+      and refl
+      and rw h (never (ltb 0 n))
+      and row-not rows 6 o
+      and row-not rows 7 o
+      and rw a (row-not rows 8 o)
+      and rw a (row-not rows 9 o)
+      and row-not rows 10 o
+      and row-not rows 11 o
+      and tt
+
+  done-recounted : stepOf rom input (recounted w n) .answer ≡ Done
+  done-recounted =
+      let o : NoneHolds (tableFor (Base i) rom (w .«data») input (length (w .output)) (w .m)) = rw d at (row-given rom input w .done-only e) in
+      row-given rom input (recounted w n) .done-by (rw decoded-recounted (none-recounted o))
+
+  work-recounted : workOf (stepOf rom input (recounted w n) .world)
+      ≡ record {
+        m = withPc (withMid (withRptc (effectAt rom input w i .m) 0) 0) 0;
+        «data» = dataAfter (writeAt rom input w i) (w .«data»);
+        output = outputAfter (writeAt rom input w i) (w .output);
+      }
+  unfolding stored performed secondWord secondAddress
+  work-recounted =
+      rw (
+        step-world rom input (recounted w n) i decoded-recounted done-recounted,
+        passed-with i h (secondWord i rom (w .«data») (w .m)) rom (w .«data») input (w .m) n,
+        written-with i h (secondWord i rom (w .«data») (w .m)) rom (w .«data») input (w .m) n,
+        follows-work (effectAt rom input w i .m) n (w .m .pc) (traitsOf i .words),
+      )
+
+module _ (rom input : List ℕ) (w : World) (i : Instruction) (d : decodedAt rom (w .«data») (w .m) ≡ Base i) (h : traitsOf i .repeatable ≡ true)
+    (e : stepOf rom input w .answer ≡ Done) where
+  -- the machine after the step, by the RPTC before it
+  machine-after : (n : ℕ) → w .m .rptc ≡ n
+      → stepOf rom input w .world .m ≡ followed (placed (effectAt rom input w i .m) n (w .m .pc)) Jump.Past (traitsOf i .words) true
+  unfolding stored performed
+  machine-after n f =
+      rw (← f, step-world rom input w i d e)
+      (passed-with i h (secondWord i rom (w .«data») (w .m)) rom (w .«data») input (w .m) (w .m .rptc))
+
+  in-bounds : w .m .rptc ≤ 255
+  unfolding tableFor
+  in-bounds = ranged (w .m) (not-false _ (row-not (rowsOf rom input w) 0 (row-given rom input w .done-only e))) .rptc
+
+  pass-works : PassWorks rom input w i
+  unfolding stored performed
+  pass-works = record {
+    goes-on = λ n f. machine-after (suc n) f ∙ follows-on (effectAt rom input w i .m) n (w .m .pc) (traitsOf i .words);
+    ends = λ f. machine-after 0 f ∙ follows-last (effectAt rom input w i .m) (w .m .pc) (traitsOf i .words);
+    stores-data = rw (step-world rom input w i d e);
+    stores-output = rw (step-world rom input w i d e);
+    any-count = λ n l. done-recounted rom input w i d h e n l;
+    same-work = λ n l. work-recounted rom input w i d h e n l ∙ sym (work-recounted rom input w i d h e (w .m .rptc) in-bounds);
+  }
+
+pub every-pass-works : EveryPassWorks
+every-pass-works rom input w i d h e = pass-works rom input w i d h e

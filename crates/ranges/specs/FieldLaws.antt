@@ -1,0 +1,215 @@
+-- The fields of a decoded instruction are within their widths, since its page takes them from so many bits: proofs.
+use mathlib.Core.Path.{_≡_, refl}
+use mathlib.Core.Bool.{Bool, true, false}
+use mathlib.Core.List.{List, [], _∷_, _++_}
+use Prim.Native.Nat.{ℕ, _/_, _%_}
+use native.Mathlib.Omega.{arith}
+use lib.Dec.{T, eqb, ltb}
+use borrow.Author.Tests.{ltb-true}
+use Rattle.instructions.specs.declared.NextArp.the-variants.{Same, To}
+use Rattle.instructions.specs.declared.Address.the-variants as Mode
+use Rattle.instructions.specs.declared.Decoded.{Decoded}
+use Rattle.instructions.specs.declared.Decoded.the-variants.{Base, Published, Nothing}
+use Rattle.instructions.specs.Encoding.{Row, pick, both, has, means, first, addressOf, indirectOf, nextOf}
+use Rattle.instructions.specs.Pages.{accumulatorPages, multiplierPages, auxiliaryPages, branchPages, transferPages, modePages, basePages, otherPages, pages}
+use Rattle.instructions.specs.Decode.{decodeOf}
+use Rattle.instructions.specs.Every.{both-left, both-right}
+use Rattle.machine.specs.declared.Machine.{Machine}
+use Rattle.board.specs.Windows.{programWord}
+use Rattle.emulator.specs.Table.{decodedAt, isPublished}
+use Rattle.laws.specs.Steps.{_and_}
+use Rattle.ranges.specs.Fields.{NextFits, IndirectFits, AddressFits, DecodedFits}
+
+next-fits : (low : ℕ) → NextFits (nextOf low)
+unfolding nextOf
+next-fits low = by (eqb (low / 8 % 2) 1)
+  where
+    by : (t : Bool) → NextFits (pick t (To (low % 8)) Same)
+    by true = omega arith
+    by false = tt
+
+indirect-fits : (low : ℕ) → IndirectFits (indirectOf low)
+unfolding indirectOf
+indirect-fits low = next-fits low
+
+address-fits : (low : ℕ) → AddressFits (addressOf low)
+unfolding addressOf
+address-fits low = by (ltb low 128) refl
+  where
+    by : (t : Bool) → ltb low 128 ≡ t → AddressFits (pick t (Mode.Direct low) (Mode.Indirect (indirectOf low)))
+    by true e = ltb-true _ _ e
+    by false e = indirect-fits low
+
+-- whatever the word, what each page of a list makes of it has fields within their widths
+RowsFit : List Row → Type 0
+RowsFit [] = Unit {0}
+RowsFit (r ∷ rs) = ((w : ℕ) → DecodedFits (means r w)) × RowsFit rs
+
+joined : (a b : List Row) → RowsFit a → RowsFit b → RowsFit (a ++ b)
+unfolding RowsFit
+joined [] b f g = g
+joined (r ∷ a) b f g = f .0 and joined a b (f .1) g
+
+-- a page with no field, with an operand alone, or with a branch's
+no-field : ℕ → Unit {0}
+no-field w = tt
+
+operand : (w : ℕ) → AddressFits (addressOf (w % 256))
+operand w = address-fits (w % 256)
+
+indirect : (w : ℕ) → IndirectFits (indirectOf (w % 256))
+indirect w = indirect-fits (w % 256)
+
+accumulator-pages : RowsFit accumulatorPages
+unfolding RowsFit
+accumulator-pages =
+    (λ w. (omega arith, operand w))
+    and (λ w. (omega arith, operand w))
+    and (λ w. (omega arith, operand w))
+    and operand
+    and operand
+    and operand
+    and operand
+    and operand
+    and operand
+    and operand
+    and operand
+    and operand
+    and operand
+    and (λ w. (omega arith, operand w))
+    and (λ w. (omega arith, operand w))
+    and (λ w. omega arith)
+    and (λ w. omega arith)
+    and (λ w. omega arith)
+    and no-field
+    and no-field
+    and no-field
+    and no-field
+    and no-field
+    and tt
+
+multiplier-pages : RowsFit multiplierPages
+unfolding RowsFit
+multiplier-pages =
+    operand
+    and operand
+    and operand
+    and operand
+    and operand
+    and operand
+    and operand
+    and operand
+    and operand
+    and operand
+    and operand
+    and operand
+    and operand
+    and operand
+    and (λ w. omega arith)
+    and no-field
+    and no-field
+    and no-field
+    and (λ w. omega arith)
+    and tt
+
+auxiliary-pages : RowsFit auxiliaryPages
+unfolding RowsFit
+auxiliary-pages =
+    (λ w. (omega arith, operand w))
+    and (λ w. (omega arith, operand w))
+    and operand
+    and operand
+    and (λ w. (omega arith, omega arith))
+    and (λ w. omega arith)
+    and (λ w. omega arith)
+    and (λ w. omega arith)
+    and tt
+
+branch-pages : RowsFit branchPages
+unfolding RowsFit
+branch-pages =
+    indirect
+    and indirect
+    and indirect
+    and indirect
+    and indirect
+    and indirect
+    and indirect
+    and indirect
+    and indirect
+    and indirect
+    and indirect
+    and no-field
+    and tt
+
+transfer-pages : RowsFit transferPages
+unfolding RowsFit
+transfer-pages =
+    operand
+    and (λ w. (omega arith, operand w))
+    and (λ w. (omega arith, operand w))
+    and tt
+
+mode-pages : RowsFit modePages
+unfolding RowsFit
+mode-pages =
+    operand
+    and (λ w. omega arith)
+    and no-field
+    and no-field
+    and no-field
+    and no-field
+    and no-field
+    and no-field
+    and no-field
+    and no-field
+    and tt
+
+-- the pages that are not in the base have no instruction, whatever the word
+allPublished : List Row → ℕ → Bool
+allPublished [] w = true
+allPublished (r ∷ rs) w = both (isPublished (means r w)) (allPublished rs w)
+
+published-fits : (d : Decoded) → T (isPublished d) → DecodedFits d
+published-fits (Base i) t = absurd t
+published-fits Published t = tt
+published-fits Nothing t = tt
+
+others-fit : (rs : List Row) → ((w : ℕ) → T (allPublished rs w)) → RowsFit rs
+unfolding RowsFit allPublished
+others-fit [] t = tt
+others-fit (r ∷ rs) t =
+    (λ w. published-fits (means r w) (both-left (isPublished (means r w)) (allPublished rs w) (t w)))
+    and others-fit rs (λ w. both-right (isPublished (means r w)) (allPublished rs w) (t w))
+
+other-pages : RowsFit otherPages
+unfolding allPublished
+other-pages = others-fit otherPages (λ w. tt)
+
+pages-fit : RowsFit pages
+pages-fit =
+    joined basePages _
+    (joined accumulatorPages _ accumulator-pages
+    (joined multiplierPages _ multiplier-pages
+    (joined auxiliaryPages _ auxiliary-pages
+    (joined branchPages _ branch-pages
+    (joined transferPages _ transfer-pages mode-pages)))))
+    other-pages
+
+first-fits : (rs : List Row) (w : ℕ) → RowsFit rs → DecodedFits (first rs w)
+unfolding RowsFit
+first-fits [] w f = tt
+first-fits (r ∷ rs) w f = by (has r w) (first-fits rs w (f .1))
+  where
+    by : (t : Bool) → DecodedFits (first rs w) → DecodedFits (pick t (means r w) (first rs w))
+    by true next = f .0 w
+    by false next = next
+
+-- for every word
+pub decoded-fields : (w : ℕ) → DecodedFits (decodeOf w)
+unfolding decodeOf
+decoded-fields w = first-fits pages w pages-fit
+
+pub fields-at : (rom «data» : List ℕ) (m : Machine) → DecodedFits (decodedAt rom «data» m)
+unfolding decodedAt
+fields-at rom «data» m = decoded-fields (programWord (m .cnf) (m .pc) rom «data»)

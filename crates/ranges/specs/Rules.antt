@@ -1,0 +1,228 @@
+-- Every rule keeps the machine in range, and leaves and asks for words of 16 bits: proofs, family by family.
+use mathlib.Core.Path.{_≡_, refl}
+use mathlib.Core.Bool.{Bool, true, false}
+use Prim.Native.Nat.{ℕ, _%_, _^_, _<_}
+use native.Mathlib.Omega.{arith}
+use Rattle.words.specs.declared.sums.Sum.{Sum}
+use Rattle.words.specs.declared.shifts.Shifted.{Shifted}
+use Rattle.machine.specs.declared.Machine.{Machine}
+use Rattle.instructions.specs.declared.Instruction.{Instruction}
+use Rattle.instructions.specs.declared.Instruction.the-variants as Family
+use Rattle.instructions.specs.declared.Accumulator.{Accumulator}
+use Rattle.instructions.specs.declared.Accumulator.the-variants as Accumulator
+use Rattle.accumulator.specs.Rule.{accumulatorRule}
+use Rattle.accumulator.specs.Pages.{withShifted, ADD, SUB, LAC, ADDH, ADDS, SUBH, SUBS, SUBC, ZALH, ZALS, AND, OR, XOR, SACL, SACH, LACK, ADDK, SUBK, CMPL, NEG, ABS, SFL, SFR}
+use Rattle.instructions.specs.declared.Multiplier.{Multiplier}
+use Rattle.instructions.specs.declared.Multiplier.the-variants as Multiplier
+use Rattle.multiplier.specs.Rule.{multiplierRule}
+use Rattle.multiplier.specs.Pages.{LT, LTA, LTP, LTD, LTS, MPY, MPYA, MPYS, MPYK, SQRA, SQRS, MAC, MACD, PAC, APAC, SPAC, SPL, SPH, SPM}
+use Rattle.instructions.specs.declared.Auxiliary.{Auxiliary}
+use Rattle.instructions.specs.declared.Auxiliary.the-variants as Auxiliary
+use Rattle.auxiliary.specs.Rule.{auxiliaryRule}
+use Rattle.auxiliary.specs.Pages.{LAR, SAR, LARK, MAR, ADRK, SBRK, LDP, LDPK}
+use Rattle.instructions.specs.declared.Branches.{Branches}
+use Rattle.instructions.specs.declared.Branches.the-variants as Branches
+use Rattle.branches.specs.Rule.{branchesRule}
+use Rattle.branches.specs.Pages.{branched, B, BANZ, BZ, BNZ, BGZ, BGEZ, BLZ, BLEZ, BV, BNV, CALL, RET}
+use Rattle.instructions.specs.declared.Transfers.{Transfers}
+use Rattle.instructions.specs.declared.Transfers.the-variants as Transfers
+use Rattle.transfers.specs.Rule.{transfersRule}
+use Rattle.transfers.specs.Pages.{DMOV, IN, OUT}
+use Rattle.instructions.specs.declared.Modes.{Modes}
+use Rattle.instructions.specs.declared.Modes.the-variants as Modes
+use Rattle.modes.specs.Rule.{modesRule}
+use Rattle.modes.specs.Pages.{SOVM, ROVM, SSXM, RSXM, CNFD, CNFP, RPT, RPTK, PUSH, POP}
+use Rattle.passes.specs.declared.Store.{Store}
+use Rattle.passes.specs.declared.Store.the-variants as Left
+use Rattle.passes.specs.declared.Jump.{Jump}
+use Rattle.passes.specs.declared.Jump.the-variants.{Past, To}
+use Rattle.passes.specs.declared.Effect.{Effect}
+use Rattle.passes.specs.Passes.{withSum, kept, stored, copied, jumped}
+use Rattle.traits.specs.Pages.{traitsOf, transfersTraits}
+use Rattle.plans.specs.Pass.{sends}
+use Rattle.rules.specs.declared.Words.{Words}
+use Rattle.rules.specs.Rules.{ruleOf}
+use Rattle.ranges.specs.Fields.{accumulatorFits, multiplierFits, auxiliaryFits, modesFits, FieldsFit}
+use Rattle.ranges.specs.Cells.{Fits, set-acc, set-p, set-t, set-pfc, set-dp, set-pm, set-ov, set-ovm, set-sxm, set-c, set-cnf, set-rptc, set-input-cursor, set-output-cursor, set-register, set-pushed, set-popped, top-fits, cell-fits, register-fits}
+use Rattle.ranges.specs.Widths.{SumFits, ShiftedFits, added-fits, subtracted-fits, added-high-fits, subtracted-high-fits, negated-fits, absolute-fits, conditionally-fits, high-half-lt, operand-lt, unsigned-lt, stored-low-lt, stored-high-lt, left-fits, right-fits, anded-lt, ored-lt, xored-lt, complemented-lt, product-lt, shifted-lt, product-high-lt, product-low-lt, sum-lt, sum-le, difference-lt}
+
+-- a word that is to be stored, and a jump, are of 16 bits
+abbrev pub StoreFits : Store → Type 0
+StoreFits Left.Nothing = Unit {0}
+StoreFits (Left.Word word) = word < 2 ^ 16
+StoreFits (Left.Move word) = word < 2 ^ 16
+StoreFits (Left.Sent word) = word < 2 ^ 16
+
+abbrev pub JumpFits : Jump → Type 0
+JumpFits Past = Unit {0}
+JumpFits (To to) = to < 2 ^ 16
+
+pub record EffectFits (i o : ℕ) (e : Effect) : Type 0 where
+  pub m : Fits i o (e .m)
+  pub store : StoreFits (e .store)
+  pub jump : JumpFits (e .jump)
+
+-- the words that a pass has read, by a machine whose cursors may go on
+pub record WordsRead (i : ℕ) (m : Machine) (words : Words) : Type 0 where
+  pub operand : words .operand < 2 ^ 16
+  pub second : words .second < 2 ^ 16
+  pub table : words .table < 2 ^ 16
+  pub next : words .next < 2 ^ 16
+  pub not-dry : words .dry ≡ false → m .«input_cursor» < i
+
+nine : (w : ℕ) → w % 2 ^ 9 < 512
+nine w = omega arith
+
+eight : (w : ℕ) → w % 2 ^ 8 < 256
+eight w = omega arith
+
+sixteen : (w : ℕ) → w % 2 ^ 16 < 2 ^ 16
+sixteen w = omega arith
+
+module _ {i o : ℕ} where
+  only : {m : Machine} → Fits i o m → EffectFits i o (kept m)
+  only f = record { m = f; store = tt; jump = tt }
+
+  storing : {m : Machine} {w : ℕ} → Fits i o m → w < 2 ^ 16 → EffectFits i o (stored m w)
+  storing f h = record { m = f; store = h; jump = tt }
+
+  copying : {m : Machine} {w : ℕ} → Fits i o m → w < 2 ^ 16 → EffectFits i o (copied m w)
+  copying f h = record { m = f; store = h; jump = tt }
+
+  jumping : {m : Machine} {to : ℕ} → Fits i o m → to < 2 ^ 16 → EffectFits i o (jumped m to)
+  jumping f h = record { m = f; store = tt; jump = h }
+
+  set-sum : {m : Machine} {s : Sum} → Fits i o m → SumFits s → Fits i o (withSum m s)
+  set-sum f s = set-c (set-ov (set-acc f (s .acc)) (s .ov)) (s .c)
+
+  set-shifted : {m : Machine} {s : Shifted} → Fits i o m → ShiftedFits s → Fits i o (withShifted m s)
+  set-shifted f s = set-c (set-acc f (s .acc)) (s .c)
+
+  accumulator-keeps : (x : Accumulator) {m : Machine} {w : ℕ} → Fits i o m → w < 2 ^ 16 → accumulatorFits x → EffectFits i o (accumulatorRule x m w)
+  unfolding accumulatorRule ADD SUB LAC ADDH ADDS SUBH SUBS SUBC ZALH ZALS AND OR XOR SACL SACH LACK ADDK SUBK CMPL NEG ABS SFL SFR
+  accumulator-keeps (Accumulator.Add s a) {m} {w} f h k = only (set-sum f (added-fits _ _ (cell-fits f 0) (cell-fits f 9) (operand-lt w s (m .sxm))))
+  accumulator-keeps (Accumulator.Sub s a) {m} {w} f h k = only (set-sum f (subtracted-fits _ _ (cell-fits f 0) (cell-fits f 9)))
+  accumulator-keeps (Accumulator.Lac s a) {m} {w} f h k = only (set-acc f (operand-lt w s (m .sxm)))
+  accumulator-keeps (Accumulator.Addh a) {m} {w} f h k = only (set-sum f (added-high-fits _ _ (cell-fits f 0) (cell-fits f 9) (cell-fits f 12)))
+  accumulator-keeps (Accumulator.Adds a) {m} {w} f h k = only (set-sum f (added-fits _ _ (cell-fits f 0) (cell-fits f 9) (unsigned-lt w)))
+  accumulator-keeps (Accumulator.Subh a) {m} {w} f h k = only (set-sum f (subtracted-high-fits _ _ (cell-fits f 0) (cell-fits f 9) (cell-fits f 12)))
+  accumulator-keeps (Accumulator.Subs a) {m} {w} f h k = only (set-sum f (subtracted-fits _ _ (cell-fits f 0) (cell-fits f 9)))
+  accumulator-keeps (Accumulator.Subc a) {m} {w} f h k = only (set-sum f (conditionally-fits _ (m .ovm) (cell-fits f 0) (cell-fits f 9)))
+  accumulator-keeps (Accumulator.Zalh a) {m} {w} f h k = only (set-acc f (high-half-lt w h))
+  accumulator-keeps (Accumulator.Zals a) {m} {w} f h k = only (set-acc f (unsigned-lt w))
+  accumulator-keeps (Accumulator.And a) {m} {w} f h k = only (set-acc f (anded-lt (m .acc) w (cell-fits f 0)))
+  accumulator-keeps (Accumulator.Or a) {m} {w} f h k = only (set-acc f (ored-lt (m .acc) w (cell-fits f 0)))
+  accumulator-keeps (Accumulator.Xor a) {m} {w} f h k = only (set-acc f (xored-lt (m .acc) w (cell-fits f 0)))
+  accumulator-keeps (Accumulator.Sacl s a) {m} {w} f h k = storing f (stored-low-lt (m .acc) s)
+  accumulator-keeps (Accumulator.Sach s a) {m} {w} f h k = storing f (stored-high-lt (m .acc) s)
+  accumulator-keeps (Accumulator.Lack n) {m} {w} f h k = only (set-acc f (omega (arith, k)))
+  accumulator-keeps (Accumulator.Addk n) {m} {w} f h k = only (set-sum f (added-fits _ _ (cell-fits f 0) (cell-fits f 9) (omega (arith, k))))
+  accumulator-keeps (Accumulator.Subk n) {m} {w} f h k = only (set-sum f (subtracted-fits _ _ (cell-fits f 0) (cell-fits f 9)))
+  accumulator-keeps Accumulator.Cmpl {m} {w} f h k = only (set-acc f (complemented-lt (m .acc)))
+  accumulator-keeps Accumulator.Neg {m} {w} f h k = only (set-sum f (negated-fits 0 _ (cell-fits f 0) (cell-fits f 9)))
+  accumulator-keeps Accumulator.Abs {m} {w} f h k = only (set-sum f (absolute-fits 0 _ (cell-fits f 0) (cell-fits f 9)))
+  accumulator-keeps Accumulator.Sfl {m} {w} f h k = only (set-shifted f (left-fits (m .acc) (cell-fits f 0)))
+  accumulator-keeps Accumulator.Sfr {m} {w} f h k = only (set-shifted f (right-fits (m .acc) (m .sxm) (cell-fits f 0)))
+
+  PAC-fits : {m : Machine} → Fits i o m → Fits i o (PAC m)
+  unfolding PAC
+  PAC-fits {m} f = set-acc f (shifted-lt (m .p) (m .pm))
+
+  APAC-fits : {m : Machine} → Fits i o m → Fits i o (APAC m)
+  unfolding APAC
+  APAC-fits {m} f = set-sum f (added-fits _ _ (cell-fits f 0) (cell-fits f 9) (shifted-lt (m .p) (m .pm)))
+
+  SPAC-fits : {m : Machine} → Fits i o m → Fits i o (SPAC m)
+  unfolding SPAC
+  SPAC-fits f = set-sum f (subtracted-fits _ _ (cell-fits f 0) (cell-fits f 9))
+
+  MAC-fits : {m : Machine} {w : ℕ} → Fits i o m → w < 2 ^ 16 → (table at : ℕ) → Fits i o (MAC w table at m)
+  unfolding MAC
+  MAC-fits {m} {w} f h table at = set-pfc (set-p (set-t (APAC-fits f) h) (product-lt w table)) (sum-lt at 1)
+
+  multiplier-keeps : (x : Multiplier) {m : Machine} {w : ℕ} (table at : ℕ) → Fits i o m → w < 2 ^ 16 → multiplierFits x → EffectFits i o (multiplierRule x m w table at)
+  unfolding multiplierRule LT LTA LTP LTD LTS MPY MPYA MPYS MPYK SQRA SQRS MACD SPL SPH SPM
+  multiplier-keeps (Multiplier.Lt a) {m} {w} table at f h k = only (set-t f h)
+  multiplier-keeps (Multiplier.Lta a) {m} {w} table at f h k = only (set-t (APAC-fits f) h)
+  multiplier-keeps (Multiplier.Ltp a) {m} {w} table at f h k = only (set-t (PAC-fits f) h)
+  multiplier-keeps (Multiplier.Ltd a) {m} {w} table at f h k = copying (set-t (APAC-fits f) h) h
+  multiplier-keeps (Multiplier.Lts a) {m} {w} table at f h k = only (set-t (SPAC-fits f) h)
+  multiplier-keeps (Multiplier.Mpy a) {m} {w} table at f h k = only (set-p f (product-lt (m .t) w))
+  multiplier-keeps (Multiplier.Mpya a) {m} {w} table at f h k = only (set-p (APAC-fits f) (product-lt (m .t) w))
+  multiplier-keeps (Multiplier.Mpys a) {m} {w} table at f h k = only (set-p (SPAC-fits f) (product-lt (m .t) w))
+  multiplier-keeps (Multiplier.Mpyk n) {m} {w} table at f h k = only (set-p f (product-lt (m .t) _))
+  multiplier-keeps (Multiplier.Sqra a) {m} {w} table at f h k = only (set-p (set-t (APAC-fits f) h) (product-lt w w))
+  multiplier-keeps (Multiplier.Sqrs a) {m} {w} table at f h k = only (set-p (set-t (SPAC-fits f) h) (product-lt w w))
+  multiplier-keeps (Multiplier.Mac a) {m} {w} table at f h k = only (MAC-fits f h table at)
+  multiplier-keeps (Multiplier.Macd a) {m} {w} table at f h k = copying (MAC-fits f h table at) h
+  multiplier-keeps Multiplier.Pac {m} {w} table at f h k = only (PAC-fits f)
+  multiplier-keeps Multiplier.Apac {m} {w} table at f h k = only (APAC-fits f)
+  multiplier-keeps Multiplier.Spac {m} {w} table at f h k = only (SPAC-fits f)
+  multiplier-keeps (Multiplier.Spl a) {m} {w} table at f h k = storing f (product-low-lt (m .p) (m .pm))
+  multiplier-keeps (Multiplier.Sph a) {m} {w} table at f h k = storing f (product-high-lt (m .p) (m .pm))
+  multiplier-keeps (Multiplier.Spm n) {m} {w} table at f h k = only (set-pm f k)
+
+  auxiliary-keeps : (x : Auxiliary) {before m : Machine} {w : ℕ} → Fits i o before → Fits i o m → w < 2 ^ 16 → auxiliaryFits x → EffectFits i o (auxiliaryRule x before m w)
+  unfolding auxiliaryRule LAR SAR LARK MAR ADRK SBRK LDP LDPK
+  auxiliary-keeps (Auxiliary.Lar r a) {before} {m} {w} b f h g = only (set-register f r w h)
+  auxiliary-keeps (Auxiliary.Sar r a) {before} {m} {w} b f h g = storing f (register-fits b r)
+  auxiliary-keeps (Auxiliary.Lark r k) {before} {m} {w} b f h g = only (set-register f r k (omega (arith, g .1)))
+  auxiliary-keeps (Auxiliary.Mar a) {before} {m} {w} b f h g = only f
+  auxiliary-keeps (Auxiliary.Adrk k) {before} {m} {w} b f h g = only (set-register f (m .arp) _ (sum-lt _ k))
+  auxiliary-keeps (Auxiliary.Sbrk k) {before} {m} {w} b f h g = only (set-register f (m .arp) _ (difference-lt _ k))
+  auxiliary-keeps (Auxiliary.Ldp a) {before} {m} {w} b f h g = only (set-dp f (nine w))
+  auxiliary-keeps (Auxiliary.Ldpk k) {before} {m} {w} b f h g = only (set-dp f g)
+
+  branching : (test : Bool) {m : Machine} {pma : ℕ} → Fits i o m → pma < 2 ^ 16 → EffectFits i o (branched test pma m)
+  unfolding branched
+  branching true f h = jumping f h
+  branching false f h = only f
+
+  branches-keeps : (x : Branches) (before : Machine) {m : Machine} {pma : ℕ} → Fits i o m → pma < 2 ^ 16 → EffectFits i o (branchesRule x before m pma)
+  unfolding branchesRule B BANZ BZ BNZ BGZ BGEZ BLZ BLEZ BV BNV CALL RET
+  branches-keeps (Branches.B x) before {m} f h = jumping f h
+  branches-keeps (Branches.Banz x) before {m} f h = branching _ f h
+  branches-keeps (Branches.Bz x) before {m} f h = branching _ f h
+  branches-keeps (Branches.Bnz x) before {m} f h = branching _ f h
+  branches-keeps (Branches.Bgz x) before {m} f h = branching _ f h
+  branches-keeps (Branches.Bgez x) before {m} f h = branching _ f h
+  branches-keeps (Branches.Blz x) before {m} f h = branching _ f h
+  branches-keeps (Branches.Blez x) before {m} f h = branching _ f h
+  branches-keeps (Branches.Bv x) before {m} f h = branching _ (set-ov f (omega arith)) h
+  branches-keeps (Branches.Bnv x) before {m} f h = branching _ (set-ov f (omega arith)) h
+  branches-keeps (Branches.Call x) before {m} f h = jumping (set-pushed f _ (sum-lt (m .pc) 2)) h
+  branches-keeps Branches.Ret before {m} f h = jumping (set-popped f) (top-fits f)
+
+  -- IN and OUT move a cursor that is not at its slice's end
+  transfers-keeps : (x : Transfers) {m : Machine} {w : ℕ} (dry : Bool) {next : ℕ} → Fits i o m → w < 2 ^ 16 → next < 2 ^ 16
+      → (dry ≡ false → m .«input_cursor» < i) → (sends (transfersTraits x .port) ≡ true → m .«output_cursor» < o)
+      → EffectFits i o (transfersRule x m w dry next)
+  unfolding transfersRule DMOV IN OUT transfersTraits sends
+  transfers-keeps (Transfers.Dmov a) dry f h k more room = copying f h
+  transfers-keeps (Transfers.In port a) true f h k more room = storing f (omega arith)
+  transfers-keeps (Transfers.In port a) {m} false f h k more room = storing (set-input-cursor f (omega (arith, sum-le (m .«input_cursor») 1, more refl))) k
+  transfers-keeps (Transfers.Out port a) {m} dry f h k more room =
+      record { m = set-output-cursor f (omega (arith, sum-le (m .«output_cursor») 1, room refl)); store = h; jump = tt }
+
+  modes-keeps : (x : Modes) {m : Machine} (w : ℕ) → Fits i o m → modesFits x → EffectFits i o (modesRule x m w)
+  unfolding modesRule SOVM ROVM SSXM RSXM CNFD CNFP RPT RPTK PUSH POP
+  modes-keeps Modes.Sovm {m} w f g = only (set-ovm f (omega arith))
+  modes-keeps Modes.Rovm {m} w f g = only (set-ovm f (omega arith))
+  modes-keeps Modes.Ssxm {m} w f g = only (set-sxm f (omega arith))
+  modes-keeps Modes.Rsxm {m} w f g = only (set-sxm f (omega arith))
+  modes-keeps Modes.Cnfd {m} w f g = only (set-cnf f (omega arith))
+  modes-keeps Modes.Cnfp {m} w f g = only (set-cnf f (omega arith))
+  modes-keeps (Modes.Rpt a) {m} w f g = only (set-rptc f (eight w))
+  modes-keeps (Modes.Rptk k) {m} w f g = only (set-rptc f g)
+  modes-keeps Modes.Push {m} w f g = only (set-pushed f _ (sixteen (m .acc)))
+  modes-keeps Modes.Pop {m} w f g = only (set-acc (set-popped f) (omega (arith, top-fits f)))
+
+  pub rule-keeps : (x : Instruction) {before m : Machine} (words : Words) → Fits i o before → Fits i o m → WordsRead i m words → FieldsFit x
+      → (sends (traitsOf x .port) ≡ true → m .«output_cursor» < o) → EffectFits i o (ruleOf x before m words)
+  unfolding ruleOf traitsOf
+  rule-keeps (Family.Accumulator x) words b f r g room = accumulator-keeps x f (r .operand) g
+  rule-keeps (Family.Multiplier x) words b f r g room = multiplier-keeps x (words .table) (words .at) f (r .operand) g
+  rule-keeps (Family.Auxiliary x) words b f r g room = auxiliary-keeps x b f (r .operand) g
+  rule-keeps (Family.Branches x) {before} words b f r g room = branches-keeps x before f (r .second)
+  rule-keeps (Family.Transfers x) words b f r g room = transfers-keeps x (words .dry) f (r .operand) (r .next) (r .not-dry) room
+  rule-keeps (Family.Modes x) words b f r g room = modes-keeps x (words .operand) f g

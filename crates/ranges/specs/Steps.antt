@@ -1,0 +1,250 @@
+-- A step keeps the world in range: proofs.
+use mathlib.Core.Path.{_≡_, refl, sym, _∙_}
+use mathlib.Core.Bool.{Bool, true, false, cond, _&&_, false≢true}
+use mathlib.Core.List.{List}
+use Prim.Native.Nat.{ℕ, _+_, _-_, _^_, _≤_, _<_}
+use native.Mathlib.Omega.{arith}
+use lib.Dec.{ltb, leb}
+use lib.ListN.{length, length-set}
+use borrow.Author.Tests.{le-leb, eq-eqb, leb-false}
+use Rattle.machine.specs.declared.Machine.{Machine}
+use Rattle.machine.specs.Range.{inRange}
+use Rattle.machine.specs.RangeLaws.{ranged, in-range}
+use Rattle.answers.specs.declared.Answer.the-variants.{Done}
+use Rattle.answers.specs.NumberLaws.{done-is}
+use Rattle.instructions.specs.declared.Instruction.{Instruction}
+use Rattle.instructions.specs.declared.Decoded.{Decoded}
+use Rattle.instructions.specs.declared.Decoded.the-variants.{Base, Published, Nothing}
+use Rattle.passes.specs.declared.Store.{Store}
+use Rattle.passes.specs.declared.Store.the-variants as Left
+use Rattle.passes.specs.declared.Jump.{Jump}
+use Rattle.passes.specs.declared.Jump.the-variants.{Past, To}
+use Rattle.passes.specs.Passes.{destination, followed}
+use Rattle.traits.specs.declared.Traits.{Traits}
+use Rattle.traits.specs.Pages.{traitsOf}
+use Rattle.addressing.specs.Addressing.{addressOf}
+use Rattle.board.specs.Regions.{moveAllowed}
+use Rattle.board.specs.Slices.{memoriesFit, portFits, portSpent, slicesFit}
+use Rattle.board.specs.SliceLaws.{slices-fit}
+use Rattle.plans.specs.declared.Write.{Write}
+use Rattle.plans.specs.declared.Write.the-variants as Write
+use Rattle.plans.specs.Rows.{Row}
+use Rattle.plans.specs.Pass.{sends, outputFull, wordsRead, effectOf, writeOf, passedMachine, passedWrite, performed, dataAfter, outputAfter}
+use Rattle.emulator.specs.World.{World}
+use Rattle.emulator.specs.Table.{decodedAt, secondWord, tableFor}
+use Rattle.emulator.specs.Step.{stored, stepOf}
+use Rattle.laws.specs.Laws.{NoneHolds}
+use Rattle.laws.specs.Steps.{_and_, row-not, step-world, refused-unchanged, row-given}
+use Rattle.laws.specs.Runs.{by-first}
+use Rattle.ranges.specs.Ranges.{WordsFit, WordSized, WorldInRange, StepInRange}
+use Rattle.ranges.specs.Fields.{FieldsFit, DecodedFits}
+use Rattle.ranges.specs.FieldLaws.{fields-at}
+use Rattle.ranges.specs.Cells.{Fits, words-set, set-pc, set-mid, set-rptc, cell-fits}
+use Rattle.ranges.specs.Widths.{sum-lt}
+use Rattle.ranges.specs.Rules.{StoreFits, JumpFits, EffectFits, rule-keeps}
+use Rattle.ranges.specs.Operands.{operand-fits, addressed-keeps, addressed-cursors, second-lt, words-read}
+
+-- ---- the world's cells, and back
+
+module _ (rom input : List ℕ) (w : World) where
+  cells-fit : WorldInRange rom input w → Fits (length input) (length (w .output)) (w .m)
+  cells-fit k =
+      let r = ranged (w .m) (k .in-range) in
+      let s = slices-fit (w .m) rom (w .«data») input (length (w .output)) (k .slices-fit) in
+      let z = k .sized in
+      record {
+        below =
+            z .acc
+            and z .p
+            and z .t
+            and z .pc
+            and z .pfc
+            and omega (arith, r .arp)
+            and omega (arith, r .arb)
+            and omega (arith, r .dp)
+            and omega (arith, r .pm)
+            and omega (arith, r .ov)
+            and omega (arith, r .ovm)
+            and omega (arith, r .sxm)
+            and omega (arith, r .c)
+            and omega (arith, r .cnf)
+            and omega (arith, r .mid)
+            and omega (arith, r .rptc)
+            and omega (arith, s .input-port .not-past)
+            and omega (arith, s .output-port .not-past)
+            and tt;
+        ar = z .ar;
+        ar-count = z .ar-count;
+        stack = z .stack;
+        stack-count = z .stack-count;
+      }
+
+module _ {i o : ℕ} {m : Machine} (f : Fits i o m) (hi : i ≤ 1024) (ho : o ≤ 1024) where
+  fits-ranged : inRange m ≡ true
+  fits-ranged =
+      in-range m (record {
+        arp = omega (arith, cell-fits f 5);
+        arb = omega (arith, cell-fits f 6);
+        dp = omega (arith, cell-fits f 7);
+        pm = omega (arith, cell-fits f 8);
+        ov = omega (arith, cell-fits f 9);
+        ovm = omega (arith, cell-fits f 10);
+        sxm = omega (arith, cell-fits f 11);
+        c = omega (arith, cell-fits f 12);
+        cnf = omega (arith, cell-fits f 13);
+        mid = omega (arith, cell-fits f 14);
+        rptc = omega (arith, cell-fits f 15);
+        input-cursor = omega (arith, cell-fits f 16);
+        output-cursor = omega (arith, cell-fits f 17);
+      })
+
+  fits-sized : WordSized m
+  fits-sized = record {
+    acc = cell-fits f 0;
+    p = cell-fits f 1;
+    t = cell-fits f 2;
+    pc = cell-fits f 3;
+    pfc = cell-fits f 4;
+    ar = f .ar;
+    ar-count = f .ar-count;
+    stack = f .stack;
+    stack-count = f .stack-count;
+  }
+
+  fits-slices : (rom «data» input : List ℕ) → length rom ≡ 4096 → length «data» ≡ 4096 → length input ≡ i → slicesFit m rom «data» input o ≡ true
+  unfolding slicesFit memoriesFit portFits
+  fits-slices rom «data» input hr hd e =
+      simp (
+        eq-eqb _ _ hr,
+        eq-eqb _ _ hd,
+        e,
+        le-leb i 1024 hi,
+        le-leb (m .«input_cursor») i (omega (arith, cell-fits f 16)),
+        le-leb o 1024 ho,
+        le-leb (m .«output_cursor») o (omega (arith, cell-fits f 17)),
+      )
+
+-- ---- what follows a pass, and its store
+
+destination-lt : (jump : Jump) (pc words : ℕ) → JumpFits jump → destination jump pc words < 2 ^ 16
+unfolding destination
+destination-lt Past pc words h = sum-lt pc words
+destination-lt (To to) pc words h = h
+
+either : (t : Bool) {i o : ℕ} {a b : Machine} → Fits i o a → Fits i o b → Fits i o (cond t a b)
+either true f g = f
+either false f g = g
+
+followed-keeps : {i o : ℕ} {m : Machine} (jump : Jump) (words : ℕ) (repeatable : Bool) → Fits i o m → JumpFits jump → Fits i o (followed m jump words repeatable)
+unfolding followed
+followed-keeps {i} {o} {m} jump words repeatable f h =
+    either (repeatable && ltb 0 (m .rptc))
+    (set-mid (set-rptc f (omega (arith, cell-fits f 15))) (omega arith))
+    (set-pc (set-mid f (omega arith)) (destination-lt jump (m .pc) words h))
+
+-- the word of a store is of 16 bits
+abbrev WriteFits : Write → Type 0
+WriteFits Write.Nothing = Unit {0}
+WriteFits (Write.Data address word) = word < 2 ^ 16
+WriteFits (Write.Sent at word) = word < 2 ^ 16
+
+moved-fits : (allowed : Bool) (address word : ℕ) → word < 2 ^ 16 → WriteFits (cond allowed (Write.Data address word) Write.Nothing)
+moved-fits true address word h = h
+moved-fits false address word h = tt
+
+write-fits : (store : Store) (cnf address cursor : ℕ) → StoreFits store → WriteFits (writeOf store cnf address cursor)
+unfolding writeOf
+write-fits Left.Nothing cnf address cursor h = tt
+write-fits (Left.Word word) cnf address cursor h = h
+write-fits (Left.Move word) cnf address cursor h = moved-fits (moveAllowed cnf address) (address + 1) word h
+write-fits (Left.Sent word) cnf address cursor h = h
+
+-- the slices after a store: as long as before, and of words of 16 bits
+record SlicesKept (write : Write) (d output : List ℕ) : Type 0 where
+  data-length : length (dataAfter write d) ≡ length d
+  output-length : length (outputAfter write output) ≡ length output
+  data-words : WordsFit (dataAfter write d)
+  output-words : WordsFit (outputAfter write output)
+
+slices-kept : (write : Write) (d output : List ℕ) → WriteFits write → WordsFit d → WordsFit output → SlicesKept write d output
+unfolding dataAfter outputAfter
+slices-kept Write.Nothing d output h f g = record { data-length = refl; output-length = refl; data-words = f; output-words = g }
+slices-kept (Write.Data address word) d output h f g =
+    record { data-length = length-set d address word; output-length = refl; data-words = words-set d address word h f; output-words = g }
+slices-kept (Write.Sent at word) d output h f g =
+    record { data-length = refl; output-length = length-set output at word; data-words = f; output-words = words-set output at word h g }
+
+-- ---- the pass
+
+module _ (rom input d : List ℕ) (o : ℕ) (x : Instruction) (m : Machine) (f : Fits (length input) o m) (g : FieldsFit x)
+    (room : sends (traitsOf x .port) ≡ true → m .«output_cursor» < o)
+    (hr : WordsFit rom) (hd : WordsFit d) (hi : WordsFit input) where
+  effect-fits : EffectFits (length input) o (effectOf x (secondWord x rom d m) rom d input m)
+  unfolding effectOf
+  effect-fits =
+      rule-keeps x (wordsRead (traitsOf x) (secondWord x rom d m) rom d input m) f (addressed-keeps (traitsOf x .operand) (operand-fits x g) f)
+      (words-read (traitsOf x) (secondWord x rom d m) rom d input m (second-lt x rom d m hr hd) hr hd hi) g
+      (λ e. rw (addressed-cursors (traitsOf x .operand) m .1) (room e))
+
+  passed-fits : Fits (length input) o (passedMachine x (secondWord x rom d m) rom d input m)
+  unfolding passedMachine
+  passed-fits = followed-keeps (effectOf x (secondWord x rom d m) rom d input m .jump) (traitsOf x .words) (traitsOf x .repeatable) (effect-fits .m) (effect-fits .jump)
+
+  passed-write : WriteFits (passedWrite x (secondWord x rom d m) rom d input m)
+  unfolding passedWrite
+  passed-write = write-fits (effectOf x (secondWord x rom d m) rom d input m .store) (m .cnf) (addressOf (traitsOf x .operand) m) (m .«output_cursor») (effect-fits .store)
+
+-- ---- the step
+
+room-where : (s t : Bool) → s && t ≡ false → s ≡ true → t ≡ false
+room-where true t h e = h
+room-where false t h e = absurd (false≢true e)
+
+room-left : (t : Traits) (o : ℕ) (m : Machine) → outputFull t o m ≡ false → sends (t .port) ≡ true → m .«output_cursor» < o
+unfolding outputFull portSpent
+room-left t o m h e = leb-false _ _ (room-where (sends (t .port)) (leb o (m .«output_cursor»)) h e)
+
+module _ (rom input : List ℕ) (w : World) (k : WorldInRange rom input w) (e : stepOf rom input w .answer ≡ Done) where
+  base-in-range : (x : Instruction) → decodedAt rom (w .«data») (w .m) ≡ Base x → FieldsFit x → outputFull (traitsOf x) (length (w .output)) (w .m) ≡ false
+      → WorldInRange rom input (stepOf rom input w .world)
+  unfolding stored performed
+  base-in-range x c g full =
+      let s = slices-fit (w .m) rom (w .«data») input (length (w .output)) (k .slices-fit) in
+      let room = room-left (traitsOf x) (length (w .output)) (w .m) full in
+      let f = cells-fit rom input w k in
+      let write = passedWrite x (secondWord x rom (w .«data») (w .m)) rom (w .«data») input (w .m) in
+      let after = slices-kept write (w .«data») (w .output)
+      (passed-write rom input (w .«data») (length (w .output)) x (w .m) f g room (k .rom-words) (k .data-words) (k .input-words)) (k .data-words) (k .output-words) in
+      let n = passed-fits rom input (w .«data») (length (w .output)) x (w .m) f g room (k .rom-words) (k .data-words) (k .input-words) in
+      let hi : length input ≤ 1024 = s .input-port .size-most in
+      let ho : length (w .output) ≤ 1024 = s .output-port .size-most in
+      rw (step-world rom input w x c e)
+      (record {
+        in-range = fits-ranged n hi ho;
+        slices-fit = rw (after .output-length) (fits-slices n hi ho rom (dataAfter write (w .«data»)) input (s .memories .rom-size) (after .data-length ∙ s .memories .data-size) refl);
+        sized = fits-sized n hi ho;
+        rom-words = k .rom-words;
+        input-words = k .input-words;
+        data-words = after .data-words;
+        output-words = after .output-words;
+      })
+
+  table : Decoded → List Row
+  table c = tableFor c rom (w .«data») input (length (w .output)) (w .m)
+
+  decoded-in-range : (c : Decoded) → decodedAt rom (w .«data») (w .m) ≡ c → DecodedFits c
+      → NoneHolds (table c) → WorldInRange rom input (stepOf rom input w .world)
+  unfolding table tableFor
+  decoded-in-range (Base x) c g n = base-in-range x c g (row-not (table (Base x)) 11 n)
+  decoded-in-range Published c g n = absurd (false≢true (sym (row-not (table Published) 4 n)))
+  decoded-in-range Nothing c g n = absurd (false≢true (sym (row-not (table Nothing) 3 n)))
+
+  done-in-range : WorldInRange rom input (stepOf rom input w .world)
+  unfolding table
+  done-in-range = decoded-in-range (decodedAt rom (w .«data») (w .m)) refl (fields-at rom (w .«data») (w .m)) (row-given rom input w .done-only e)
+
+pub step-in-range : StepInRange
+step-in-range rom input w k =
+    by-first rom input w
+    (λ d. done-in-range rom input w k (done-is _ d))
+    (λ r. rw (refused-unchanged rom input w r) k)

@@ -1,0 +1,1 @@
+// What a step keeps in range, in specs/ alone: no function is needed here.
