@@ -49,8 +49,8 @@ NoneHolds (r ∷ rows) = (r .given ≡ false) × NoneHolds rows
 -- a is the answer of a row whose condition holds, and no earlier row's does
 pub record GivenBy (a : Answer) (rows : List Row) : Type 0 where
   pub earlier : List Row
-  pub later-rows : List Row
-  pub in-order : rows ≡ earlier ++ (row a true ∷ later-rows)
+  pub later : List Row
+  pub in-order : rows ≡ earlier ++ (row a true ∷ later)
   pub none-earlier : NoneHolds earlier
 
 -- "Given exactly when": a row's answer is given exactly when its condition holds and no earlier row's does, and 0 exactly when no row's does

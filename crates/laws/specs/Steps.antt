@@ -1,5 +1,5 @@
 -- A refused step, the answers of a step, and the rows of the table: proofs.
-use mathlib.Core.Path.{_≡_, refl, sym, _∙_, ap}
+use mathlib.Core.Path.{_≡_, refl, sym, _∙_, ap, ap₂}
 use mathlib.Core.Bool.{Bool, true, false, cond, false≢true}
 use mathlib.Core.List.{List, [], _∷_, _++_}
 use Prim.Native.Nat.{ℕ, zero, suc, _+_, _≤_}
@@ -133,10 +133,10 @@ first-from [] a h e = absurd (false≢true (sym h ∙ sym (ap isDone e)))
 first-from (r ∷ rows) a h e = by (r .given) refl (first-from rows a h) e
   where
     by : (t : Bool) → r .given ≡ t → (firstGiven rows ≡ a → GivenBy a rows) → cond t (r .answer) (firstGiven rows) ≡ a → GivenBy a (r ∷ rows)
-    by true g next e = record { earlier = []; later-rows = rows; in-order = rw (← g, ← e); none-earlier = tt }
+    by true g next e = record { earlier = []; later = rows; in-order = ap (λ (x : Row). x ∷ rows) (ap₂ row e g); none-earlier = tt }
     by false g next e =
         let f = next e in
-        record { earlier = r ∷ f .earlier; later-rows = f .later-rows; in-order = ap (λ (l : List Row). r ∷ l) (f .in-order); none-earlier = (g, f .none-earlier) }
+        record { earlier = r ∷ f .earlier; later = f .later; in-order = ap (λ (l : List Row). r ∷ l) (f .in-order); none-earlier = (g, f .none-earlier) }
 
 none-from : (rows : List Row) → Refusals rows → firstGiven rows ≡ Done → NoneHolds rows
 unfolding firstGiven
@@ -149,7 +149,7 @@ none-from (r ∷ rows) s e = by (r .given) refl (none-from rows (s .1)) e
 
 pub row-given : (rom input : List ℕ) (w : World) → RowGiven rom input w
 row-given rom input w = record {
-  given-by = λ a g. step-answer rom input w ∙ (ap firstGiven (g .in-order) ∙ first-is a (g .earlier) (g .later-rows) (g .none-earlier));
+  given-by = λ a g. step-answer rom input w ∙ (ap firstGiven (g .in-order) ∙ first-is a (g .earlier) (g .later) (g .none-earlier));
   only-by = λ a h e. first-from (rowsOf rom input w) a h (sym (step-answer rom input w) ∙ e);
   done-by = λ n. step-answer rom input w ∙ none-done (rowsOf rom input w) n;
   done-only = λ e. none-from (rowsOf rom input w) (table-refuses (decodedAt rom (w .«data») (w .m)) rom (w .«data») input (length (w .output)) (w .m)) (sym (step-answer rom input w) ∙ e);
