@@ -2,3 +2,4 @@
 mod digits;
 mod fields;
 pub mod lines;
+pub mod replaying;
