@@ -2,9 +2,8 @@
 use mathlib.Core.Path.{_≡_}
 use mathlib.Core.List.{List, [], _∷_, _++_}
 use Prim.Native.Nat.{ℕ, _+_, _≤_}
-use lib.ListN.{length, take, replicate}
+use lib.ListN.{length, take}
 use lib.Seq.{sets}
-use Rattle.runfile.specs.Files.{readContents}
 use Rattle.line.specs.Lines.{hexadecimal, decimal, space, newline}
 
 -- the text stands from a place on, the next place is where it ends, and nothing else has changed
@@ -38,10 +37,3 @@ pub record WordsPut (words before : List ℕ) (at k : ℕ) (after : List ℕ) (n
 pub record Counted (n rest places : ℕ) : Type 0 where
   pub sum : places + length (decimal rest) ≡ 1 + length (decimal n)
   pub falls : rest + places ≤ n + 1
-
--- slices as `replay` lends them for a file: memories of 4,096 words, an input slice of the file's count, and 1,024 zeros to write to
-pub record FreshSlices (bytes rom dataMemory input output : List ℕ) : Type 0 where
-  pub rom-size : length rom ≡ 4096
-  pub data-size : length dataMemory ≡ 4096
-  pub input-size : length input ≡ length (readContents bytes .input)
-  pub output-zeros : output ≡ replicate 1024 0

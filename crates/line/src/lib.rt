@@ -2,4 +2,3 @@
 mod digits;
 mod fields;
 pub mod lines;
-pub mod replaying;

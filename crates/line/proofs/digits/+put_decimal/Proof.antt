@@ -23,7 +23,6 @@ abbrev put-decimal-below : ℕ → In 1 put-decimal-kinds.ps
 put-decimal-below t =
     and 1 put-decimal-kinds.ps (falls 1 put-decimal-kinds.ps _<_ μ-put-decimal t) put-decimal.Pre
 
--- src/digits.rt:52:36
 put-decimal-digit-requires : (t : ℕ) → put-decimal-lts.Need-digit-requires (
   digit-reads.Asked,
   digit-reads.Learnt,
@@ -34,7 +33,6 @@ put-decimal-digit-requires : (t : ℕ) → put-decimal-lts.Need-digit-requires (
 ) (put-decimal-at t) put-decimal.Post
 put-decimal-digit-requires t c κs = omega (arith, c .before .if1 .taken)
 
--- src/digits.rt:52:9
 put-decimal-put-byte-requires : (t : ℕ) → put-decimal-lts.Need-put-byte-requires (
   digit-reads.Asked,
   digit-reads.Learnt,
@@ -45,7 +43,6 @@ put-decimal-put-byte-requires : (t : ℕ) → put-decimal-lts.Need-put-byte-requ
 ) (put-decimal-at t) put-decimal.Post
 put-decimal-put-byte-requires t c κs = one-room _ _ (c .before .before .if1 .taken) (c .before .before .before .before .pre .1)
 
--- src/digits.rt:52:9
 put-decimal-same-length : (t : ℕ) → put-decimal-lts.Need-same-length (
   digit-reads.Asked,
   digit-reads.Learnt,
@@ -56,7 +53,6 @@ put-decimal-same-length : (t : ℕ) → put-decimal-lts.Need-same-length (
 ) (put-decimal-at t) put-decimal.Post
 put-decimal-same-length t c = put-length (c .before .before .put-byte .ensures)
 
--- src/digits.rt:52:9
 put-decimal-returns : (t : ℕ) → put-decimal-lts.Need-returns (
   digit-reads.Asked,
   digit-reads.Learnt,
@@ -67,7 +63,6 @@ put-decimal-returns : (t : ℕ) → put-decimal-lts.Need-returns (
 ) (put-decimal-at t) put-decimal.Post
 put-decimal-returns t c = one-put _ (c .before .before .before .before .before .if1 .taken) (c .before .before .before .digit .ensures) (c .before .before .put-byte .ensures)
 
--- src/digits.rt:54:9
 put-decimal-put-decimal-requires : (t : ℕ) → put-decimal-lts.Need-put-decimal-requires (
   digit-reads.Asked,
   digit-reads.Learnt,
@@ -78,7 +73,6 @@ put-decimal-put-decimal-requires : (t : ℕ) → put-decimal-lts.Need-put-decima
 ) (put-decimal-at t) put-decimal.Post
 put-decimal-put-decimal-requires t c κs = (omega (arith, c .before .if1 .left, c .before .before .before .pre .0), more-room _ (c .before .if1 .left) (c .before .before .before .pre .1))
 
--- src/digits.rt:55:27
 put-decimal-digit-requires-2 : (t : ℕ) → put-decimal-lts.Need-digit-requires-2 (
   digit-reads.Asked,
   digit-reads.Learnt,
@@ -89,7 +83,6 @@ put-decimal-digit-requires-2 : (t : ℕ) → put-decimal-lts.Need-digit-requires
 ) (put-decimal-at t) put-decimal.Post
 put-decimal-digit-requires-2 t c κs = omega arith
 
--- src/digits.rt:55:5
 put-decimal-put-byte-requires-2 : (t : ℕ) → put-decimal-lts.Need-put-byte-requires-2 (
   digit-reads.Asked,
   digit-reads.Learnt,
@@ -100,7 +93,6 @@ put-decimal-put-byte-requires-2 : (t : ℕ) → put-decimal-lts.Need-put-byte-re
 ) (put-decimal-at t) put-decimal.Post
 put-decimal-put-byte-requires-2 t c κs = last-room _ _ (c .before .before .before .before .before .before .if1 .left) (c .before .before .before .before .before .before .before .before .pre .1) (c .before .before .before .before .put-decimal .ensures)
 
--- src/digits.rt:47:1
 put-decimal-same-length-2 : (t : ℕ) → put-decimal-lts.Need-same-length-2 (
   digit-reads.Asked,
   digit-reads.Learnt,
@@ -111,7 +103,6 @@ put-decimal-same-length-2 : (t : ℕ) → put-decimal-lts.Need-same-length-2 (
 ) (put-decimal-at t) put-decimal.Post
 put-decimal-same-length-2 t c = put-length (c .before .before .put-byte2 .ensures) ∙ put-length (c .before .before .before .before .before .before .before .put-decimal .ensures)
 
--- src/digits.rt:47:1
 put-decimal-returns-2 : (t : ℕ) → put-decimal-lts.Need-returns-2 (
   digit-reads.Asked,
   digit-reads.Learnt,

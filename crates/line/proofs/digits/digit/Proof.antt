@@ -3,31 +3,23 @@ use Rattle.line.specs.Lines.{digitOf}
 use borrow.Author.Needs.{needs}
 use Rattle.line.proofs.digits.digit.Statement.{statement}
 use Rattle.line.proofs.digits.digit.Tie as tie
-use Rattle.line.proofs.digits.digit.Reads as reads
-use Rattle.line.proofs.digits.digit.Lts as lts
 
--- src/digits.rt:16:16
 cast-result : tie.Need-cast-result
 cast-result c = search needs
 
--- src/digits.rt:16:9
 add-result : tie.Need-add-result
 add-result c = search needs
 
--- src/digits.rt:18:16
 cast-result-2 : tie.Need-cast-result-2
 cast-result-2 c = search needs
 
--- src/digits.rt:18:9
 add-result-2 : tie.Need-add-result-2
 add-result-2 c = search needs
 
--- src/digits.rt:11:1
 returns : tie.Need-returns
 unfolding digitOf
 returns c = simp (lt-ltb _ _ (c .if1 .taken))
 
--- src/digits.rt:11:1
 returns-2 : tie.Need-returns-2
 unfolding digitOf
 returns-2 c = simp (le-ltb _ _ (c .if1 .left))

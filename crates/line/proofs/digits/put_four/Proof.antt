@@ -3,48 +3,34 @@ use native.Mathlib.Omega.{arith}
 use borrow.Author.Needs.{needs}
 use Rattle.line.proofs.digits.put_four.Statement.{statement}
 use Rattle.line.proofs.digits.put_four.Tie as tie
-use Rattle.line.proofs.digits.put_four.Reads as reads
-use Rattle.line.proofs.digits.put_four.Lts as lts
-use Rattle.line.proofs.digits.digit.Reads as digit-reads
-use Rattle.line.proofs.digits.put_byte.Reads as put-byte-reads
 
--- src/digits.rt:38:9
 digit-requires : tie.Need-digit-requires
 digit-requires c κs = search needs
 
--- src/digits.rt:39:9
 digit-requires-2 : tie.Need-digit-requires-2
 digit-requires-2 c κs = search needs
 
--- src/digits.rt:40:9
 digit-requires-3 : tie.Need-digit-requires-3
 digit-requires-3 c κs = search needs
 
--- src/digits.rt:41:9
 digit-requires-4 : tie.Need-digit-requires-4
 digit-requires-4 c κs = search needs
 
--- src/digits.rt:42:9
 put-byte-requires : tie.Need-put-byte-requires
 put-byte-requires c κs = record { fits = omega (arith, c .before .before .before .before .before .before .pre .fits, hexadecimal-length 4 (c .before .before .before .before .before .before .args .n)) }
 
--- src/digits.rt:43:9
 put-byte-requires-2 : tie.Need-put-byte-requires-2
 put-byte-requires-2 c κs = record { fits = omega (arith, c .before .before .before .before .before .before .before .before .before .before .pre .fits, hexadecimal-length 4 (c .before .before .before .before .before .before .before .before .before .before .args .n), c .before .before .before .put-byte .ensures .ends, put-length (c .before .before .before .put-byte .ensures)) }
 
--- src/digits.rt:44:9
 put-byte-requires-3 : tie.Need-put-byte-requires-3
 put-byte-requires-3 c κs = record { fits = omega (arith, c .before .before .before .before .before .before .before .before .before .before .before .before .before .before .pre .fits, hexadecimal-length 4 (c .before .before .before .before .before .before .before .before .before .before .before .before .before .before .args .n), c .before .before .before .before .before .before .before .put-byte .ensures .ends, put-length (c .before .before .before .before .before .before .before .put-byte .ensures), c .before .before .before .put-byte2 .ensures .ends, put-length (c .before .before .before .put-byte2 .ensures)) }
 
--- src/digits.rt:45:5
 put-byte-requires-4 : tie.Need-put-byte-requires-4
 put-byte-requires-4 c κs = record { fits = omega (arith, c .before .before .before .before .before .before .before .before .before .before .before .before .before .before .before .before .before .before .pre .fits, hexadecimal-length 4 (c .before .before .before .before .before .before .before .before .before .before .before .before .before .before .before .before .before .before .args .n), c .before .before .before .before .before .before .before .before .before .before .before .put-byte .ensures .ends, put-length (c .before .before .before .before .before .before .before .before .before .before .before .put-byte .ensures), c .before .before .before .before .before .before .before .put-byte2 .ensures .ends, put-length (c .before .before .before .before .before .before .before .put-byte2 .ensures), c .before .before .before .put-byte3 .ensures .ends, put-length (c .before .before .before .put-byte3 .ensures)) }
 
--- src/digits.rt:32:1
 same-length : tie.Need-same-length
 same-length c = search needs
 
--- src/digits.rt:32:1
 returns : tie.Need-returns
 returns c = four-put _ (c .before .before .before .before .before .before .before .before .before .before .before .before .before .before .before .before .before .before .before .digit .ensures) (c .before .before .before .before .before .before .before .before .before .before .before .before .before .before .before .before .before .before .digit2 .ensures) (c .before .before .before .before .before .before .before .before .before .before .before .before .before .before .before .before .before .digit3 .ensures) (c .before .before .before .before .before .before .before .before .before .before .before .before .before .before .before .before .digit4 .ensures) (c .before .before .before .before .before .before .before .before .before .before .before .before .before .before .put-byte .ensures) (c .before .before .before .before .before .before .before .before .before .before .put-byte2 .ensures) (c .before .before .before .before .before .before .put-byte3 .ensures) (c .before .before .put-byte4 .ensures)
 

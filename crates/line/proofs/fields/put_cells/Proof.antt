@@ -2,38 +2,25 @@ use Rattle.line.proofs.Cells.{answer-room, steps-room, pc-room, acc-roo
 use borrow.Author.Needs.{needs}
 use Rattle.line.proofs.fields.put_cells.Statement.{statement}
 use Rattle.line.proofs.fields.put_cells.Tie as tie
-use Rattle.line.proofs.fields.put_cells.Reads as reads
-use Rattle.line.proofs.fields.put_cells.Lts as lts
-use Rattle.line.proofs.digits.put_decimal.Reads as put-decimal-reads
-use Rattle.line.proofs.fields.put_decimal_field.Reads as put-decimal-field-reads
-use Rattle.line.proofs.fields.put_long_field.Reads as put-long-field-reads
-use Rattle.line.proofs.fields.put_word_field.Reads as put-word-field-reads
 
--- src/fields.rt:42:9
 put-decimal-requires : tie.Need-put-decimal-requires
 put-decimal-requires c κs = answer-room _ _ _ _ _ (c .before .before .pre)
 
--- src/fields.rt:43:9
 put-decimal-field-requires : tie.Need-put-decimal-field-requires
 put-decimal-field-requires c κs = steps-room _ _ _ _ _ (c .before .before .before .before .before .before .pre) (c .before .before .before .put-decimal .ensures)
 
--- src/fields.rt:44:9
 put-word-field-requires : tie.Need-put-word-field-requires
 put-word-field-requires c κs = pc-room _ _ _ _ _ (c .before .before .before .before .before .before .before .before .before .before .pre) (c .before .before .before .before .before .before .before .put-decimal .ensures) (c .before .before .before .put-decimal-field .ensures)
 
--- src/fields.rt:45:9
 put-long-field-requires : tie.Need-put-long-field-requires
 put-long-field-requires c κs = acc-room _ _ _ _ _ (c .before .before .before .before .before .before .before .before .before .before .before .before .before .before .pre) (c .before .before .before .before .before .before .before .before .before .before .before .put-decimal .ensures) (c .before .before .before .before .before .before .before .put-decimal-field .ensures) (c .before .before .before .put-word-field .ensures)
 
--- src/fields.rt:46:5
 put-decimal-field-requires-2 : tie.Need-put-decimal-field-requires-2
 put-decimal-field-requires-2 c κs = ov-room _ _ _ _ _ (c .before .before .before .before .before .before .before .before .before .before .before .before .before .before .before .before .before .before .pre) (c .before .before .before .before .before .before .before .before .before .before .before .before .before .before .before .put-decimal .ensures) (c .before .before .before .before .before .before .before .before .before .before .before .put-decimal-field .ensures) (c .before .before .before .before .before .before .before .put-word-field .ensures) (c .before .before .before .put-long-field .ensures)
 
--- src/fields.rt:38:1
 same-length : tie.Need-same-length
 same-length c = search needs
 
--- src/fields.rt:38:1
 returns : tie.Need-returns
 returns c = cells-put _ _ _ _ _ (c .before .before .before .before .before .before .before .before .before .before .before .before .before .before .before .before .before .before .before .before .before .pre) (c .before .before .before .before .before .before .before .before .before .before .before .before .before .before .before .before .before .before .put-decimal .ensures) (c .before .before .before .before .before .before .before .before .before .before .before .before .before .before .put-decimal-field .ensures) (c .before .before .before .before .before .before .before .before .before .before .put-word-field .ensures) (c .before .before .before .before .before .before .put-long-field .ensures) (c .before .before .put-decimal-field2 .ensures)
 

@@ -2,24 +2,16 @@ use Rattle.line.specs.LineLaws.{put-then}
 use borrow.Author.Needs.{needs}
 use Rattle.line.proofs.fields.put_decimal_field.Statement.{statement}
 use Rattle.line.proofs.fields.put_decimal_field.Tie as tie
-use Rattle.line.proofs.fields.put_decimal_field.Reads as reads
-use Rattle.line.proofs.fields.put_decimal_field.Lts as lts
-use Rattle.line.proofs.digits.put_byte.Reads as put-byte-reads
-use Rattle.line.proofs.digits.put_decimal.Reads as put-decimal-reads
 
--- src/fields.rt:15:9
 put-byte-requires : tie.Need-put-byte-requires
 put-byte-requires c κs = search needs
 
--- src/fields.rt:16:5
 put-decimal-requires : tie.Need-put-decimal-requires
 put-decimal-requires c κs = search needs
 
--- src/fields.rt:11:1
 same-length : tie.Need-same-length
 same-length c = search needs
 
--- src/fields.rt:11:1
 returns : tie.Need-returns
 returns c = put-then (c .before .before .before .before .before .before .put-byte .ensures) (c .before .before .put-decimal .ensures)
 

@@ -4,24 +4,16 @@ use Rattle.line.specs.Lines.{hexadecimal, space}
 use borrow.Author.Needs.{needs}
 use Rattle.line.proofs.fields.put_long_field.Statement.{statement}
 use Rattle.line.proofs.fields.put_long_field.Tie as tie
-use Rattle.line.proofs.fields.put_long_field.Reads as reads
-use Rattle.line.proofs.fields.put_long_field.Lts as lts
-use Rattle.line.proofs.digits.put_four.Reads as put-four-reads
-use Rattle.line.proofs.fields.put_word_field.Reads as put-word-field-reads
 
--- src/fields.rt:33:9
 put-word-field-requires : tie.Need-put-word-field-requires
 put-word-field-requires c κs = room-first _ (hexadecimal 4 (c .before .before .args .n)) (rw eight-digits at (c .before .before .pre))
 
--- src/fields.rt:34:5
 put-four-requires : tie.Need-put-four-requires
 put-four-requires c κs = room-then (c .before .before .before .put-word-field .ensures) _ (rw eight-digits at (c .before .before .before .before .before .before .pre))
 
--- src/fields.rt:29:1
 same-length : tie.Need-same-length
 same-length c = search needs
 
--- src/fields.rt:29:1
 returns : tie.Need-returns
 returns c = rw eight-digits (put-then (c .before .before .before .before .before .before .put-word-field .ensures) (c .before .before .put-four .ensures))
 

@@ -2,24 +2,16 @@ use Rattle.line.specs.LineLaws.{put-then}
 use borrow.Author.Needs.{needs}
 use Rattle.line.proofs.fields.put_word_field.Statement.{statement}
 use Rattle.line.proofs.fields.put_word_field.Tie as tie
-use Rattle.line.proofs.fields.put_word_field.Reads as reads
-use Rattle.line.proofs.fields.put_word_field.Lts as lts
-use Rattle.line.proofs.digits.put_byte.Reads as put-byte-reads
-use Rattle.line.proofs.digits.put_four.Reads as put-four-reads
 
--- src/fields.rt:24:9
 put-byte-requires : tie.Need-put-byte-requires
 put-byte-requires c κs = search needs
 
--- src/fields.rt:25:5
 put-four-requires : tie.Need-put-four-requires
 put-four-requires c κs = search needs
 
--- src/fields.rt:20:1
 same-length : tie.Need-same-length
 same-length c = search needs
 
--- src/fields.rt:20:1
 returns : tie.Need-returns
 returns c = put-then (c .before .before .before .before .before .before .put-byte .ensures) (c .before .before .put-four .ensures)
 

@@ -6,10 +6,6 @@ use Prim.Native.Nat.{_-_}
 use lib.ListN.{length}
 use Rattle.line.proofs.fields.put_words.Statement.{statement}
 use Rattle.line.proofs.fields.put_words.Tie as tie
-use Rattle.line.proofs.fields.put_words.Reads as reads
-use Rattle.line.proofs.fields.put_words.Lts as lts
-use Rattle.line.proofs.fields.put_word_field.Reads as put-word-field-reads
-use Rattle.line.proofs.fields.wide.Reads as wide-reads
 
 abbrev Inv-loop : tie.InvT-loop
 Inv-loop bytes₀ at words next₀ k₀ bytes next k = WordsPut words bytes₀ at k bytes next
@@ -17,43 +13,33 @@ Inv-loop bytes₀ at words next₀ k₀ bytes next k = WordsPut words bytes₀ a
 abbrev μ-loop : tie.MeasureT-loop
 μ-loop bytes₀ at words next₀ k₀ bytes next k = length words - k
 
--- src/fields.rt:63:5
 loop-holds : tie.Need-loop-holds Inv-loop μ-loop
 loop-holds c = words-none _ _ _
 
--- src/fields.rt:64:49
 mul-wide : tie.Need-mul-wide Inv-loop μ-loop
 mul-wide c = search needs
 
--- src/fields.rt:64:49
 shared-slice-read-wide : tie.Need-shared-slice-read-wide Inv-loop μ-loop
 shared-slice-read-wide c = search needs
 
--- src/fields.rt:64:44
 wide-requires : tie.Need-wide-requires Inv-loop μ-loop
 wide-requires c κs = search needs
 
--- src/fields.rt:64:9
 put-word-field-requires : tie.Need-put-word-field-requires Inv-loop μ-loop
 put-word-field-requires c κs = rw (c .wide .ensures) (words-room (c .before .before .before .before .loop .inv) (c .before .before .before .before .before .before .before .pre) (c .before .before .before .loop-test .taken))
 
--- src/fields.rt:65:9
 add-k : tie.Need-add-k Inv-loop μ-loop
 add-k c = search needs
 
--- src/fields.rt:63:5
 loop-less : tie.Need-loop-less Inv-loop μ-loop
 loop-less c = search needs
 
--- src/fields.rt:63:5
 loop-again : tie.Need-loop-again Inv-loop μ-loop
 loop-again c = words-more (c .before .before .before .before .before .before .before .loop .inv) (c .before .before .before .before .before .before .loop-test .taken) (rw (c .before .before .before .wide .ensures) at (c .before .before .put-word-field .ensures))
 
--- src/fields.rt:57:1
 same-length : tie.Need-same-length Inv-loop μ-loop
 same-length c = put-length (c .before .loop .inv .so-far)
 
--- src/fields.rt:57:1
 returns : tie.Need-returns Inv-loop μ-loop
 returns c = words-all (c .before .loop .inv) (c .loop-test .left)
 

@@ -3,28 +3,19 @@ use Rattle.line.specs.LineLaws.{line-length, line-kept, line-room, line-
 use borrow.Author.Needs.{needs}
 use Rattle.line.proofs.lines.fit_line.Statement.{statement}
 use Rattle.line.proofs.lines.fit_line.Tie as tie
-use Rattle.line.proofs.lines.fit_line.Reads as reads
-use Rattle.line.proofs.lines.fit_line.Lts as lts
-use Rattle.line.proofs.lines.line_length.Reads as line-length-reads
-use Rattle.line.proofs.lines.put_line.Reads as put-line-reads
 
--- src/lines.rt:57:22
 line-length-requires : tie.Need-line-length-requires
 line-length-requires c κs = search needs
 
--- src/lines.rt:58:9
 returns : tie.Need-returns
 returns c = line-kept _ _ (c .before .line-length .ensures ∙ sym (line-length _ _ _ _ _ _)) (c .if1 .taken)
 
--- src/lines.rt:60:5
 put-line-requires : tie.Need-put-line-requires
 put-line-requires c κs = line-room _ _ (c .before .before .line-length .ensures ∙ sym (line-length _ _ _ _ _ _)) (c .before .if1 .left)
 
--- src/lines.rt:45:1
 same-length : tie.Need-same-length
 same-length c = search needs
 
--- src/lines.rt:45:1
 returns-2 : tie.Need-returns-2
 returns-2 c = line-done _ _ (c .before .before .before .before .before .line-length .ensures ∙ sym (line-length _ _ _ _ _ _)) (c .before .before .before .before .if1 .left) (c .before .before .put-line .ensures)
 

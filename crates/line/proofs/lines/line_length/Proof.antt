@@ -3,43 +3,31 @@ use native.Mathlib.Omega.{arith}
 use borrow.Author.Needs.{needs}
 use Rattle.line.proofs.lines.line_length.Statement.{statement}
 use Rattle.line.proofs.lines.line_length.Tie as tie
-use Rattle.line.proofs.lines.line_length.Reads as reads
-use Rattle.line.proofs.lines.line_length.Lts as lts
-use Rattle.line.proofs.digits.decimal_length.Reads as decimal-length-reads
 
--- src/lines.rt:23:5
 decimal-length-requires : tie.Need-decimal-length-requires
 decimal-length-requires c κs = search needs
 
--- src/lines.rt:23:30
 decimal-length-requires-2 : tie.Need-decimal-length-requires-2
 decimal-length-requires-2 c κs = search needs
 
--- src/lines.rt:23:5
 add-result : tie.Need-add-result
 add-result c = omega (arith, decimal-most (c .before .before .args .answer), decimal-most (c .before .before .args .steps), decimal-most (c .before .before .args .ov))
 
--- src/lines.rt:23:54
 decimal-length-requires-3 : tie.Need-decimal-length-requires-3
 decimal-length-requires-3 c κs = search needs
 
--- src/lines.rt:23:5
 add-result-2 : tie.Need-add-result-2
 add-result-2 c = omega (arith, decimal-most (c .before .before .before .args .answer), decimal-most (c .before .before .before .args .steps), decimal-most (c .before .before .before .args .ov))
 
--- src/lines.rt:23:75
 mul-result : tie.Need-mul-result
 mul-result c = search needs
 
--- src/lines.rt:23:5
 add-result-3 : tie.Need-add-result-3
 add-result-3 c = omega (arith, decimal-most (c .before .before .before .args .answer), decimal-most (c .before .before .before .args .steps), decimal-most (c .before .before .before .args .ov))
 
--- src/lines.rt:23:5
 add-result-4 : tie.Need-add-result-4
 add-result-4 c = omega (arith, decimal-most (c .before .before .before .args .answer), decimal-most (c .before .before .before .args .steps), decimal-most (c .before .before .before .args .ov))
 
--- src/lines.rt:19:1
 returns : tie.Need-returns
 returns c = search needs
 

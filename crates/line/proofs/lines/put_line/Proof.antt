@@ -2,29 +2,19 @@ use Rattle.line.proofs.Cells.{cells-room, sent-room, newline-room, whol
 use borrow.Author.Needs.{needs}
 use Rattle.line.proofs.lines.put_line.Statement.{statement}
 use Rattle.line.proofs.lines.put_line.Tie as tie
-use Rattle.line.proofs.lines.put_line.Reads as reads
-use Rattle.line.proofs.lines.put_line.Lts as lts
-use Rattle.line.proofs.digits.put_byte.Reads as put-byte-reads
-use Rattle.line.proofs.fields.put_cells.Reads as put-cells-reads
-use Rattle.line.proofs.fields.put_words.Reads as put-words-reads
 
--- src/lines.rt:39:9
 put-cells-requires : tie.Need-put-cells-requires
 put-cells-requires c κs = cells-room _ _ _ _ _ _ (c .before .before .before .pre)
 
--- src/lines.rt:40:9
 put-words-requires : tie.Need-put-words-requires
 put-words-requires c κs = sent-room _ _ _ _ _ _ (c .before .before .before .before .before .before .before .pre) (c .before .before .before .put-cells .ensures)
 
--- src/lines.rt:41:5
 put-byte-requires : tie.Need-put-byte-requires
 put-byte-requires c κs = newline-room _ _ _ _ _ _ (c .before .before .before .before .before .before .before .before .before .before .before .pre) (c .before .before .before .before .before .before .before .put-cells .ensures) (c .before .before .before .put-words .ensures)
 
--- src/lines.rt:27:1
 same-length : tie.Need-same-length
 same-length c = search needs
 
--- src/lines.rt:27:1
 returns : tie.Need-returns
 returns c = whole-put _ _ _ _ _ _ (c .before .before .before .before .before .before .before .before .before .before .before .before .before .before .pre) (c .before .before .before .before .before .before .before .before .before .before .put-cells .ensures) (c .before .before .before .before .before .before .put-words .ensures) (c .before .before .put-byte .ensures)
 

@@ -20,9 +20,9 @@ use Rattle.runfile.specs.FileLaws.{accepted, head-read, rules-facts}
 use Rattle.emulator.specs.declared.Ran.{Ran}
 use Rattle.emulator.specs.World.{World, RunOutcome, ran}
 use Rattle.emulator.specs.Step.{runOf}
 use Rattle.line.specs.Lines.{lineOf, refusedLine, lineIn, lengthIn}
-use Rattle.line.specs.Replay.{startOf, replayRun, runLine, replayLine}
-use Rattle.line.specs.Facts.{FreshSlices}
+use Rattle.replaying.specs.Replay.{startOf, replayRun, runLine, replayLine}
+use Rattle.replaying.specs.Facts.{FreshSlices}
 
 -- what was put down of a line, where the line has another name
 pub placed-as : (bytes : List ℕ) {line other after : List ℕ} {n : ℕ} → line ≡ other → (n ≡ lengthIn line bytes) × (after ≡ lineIn line bytes)
