@@ -1,0 +1,6 @@
+-- definitions
+pub mod Replay
+-- words of the laws
+pub mod Facts
+-- laws
+pub mod ReplayLaws

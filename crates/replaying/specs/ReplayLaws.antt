@@ -1,0 +1,84 @@
+-- Laws of what `replay` prints: what is set up and run gives the definition's line, and a longer file can be cut.
+use mathlib.Core.Path.{_≡_, refl, sym, ap, _∙_}
+use mathlib.Core.Bool.{Bool, true, false, cond, false≢true}
+use mathlib.Core.List.{List}
+use Prim.Native.Nat.{ℕ, _+_, _≤_, _<_}
+use native.Mathlib.Omega.{arith}
+use lib.Dec.{ltb, eqb}
+use lib.ListN.{length, take, getD, replicate}
+use lib.Seq.{take-all, length-take-le, getD-take}
+use borrow.Author.Tests.{eq-eqb, le-ltb}
+use Rattle.machine.specs.declared.Machine.{Machine}
+use Rattle.machine.specs.Reset.{resetMachine}
+use Rattle.answers.specs.declared.Answer.the-variants.{Done, FileRules, FileVersion}
+use Rattle.answers.specs.Numbers.{isDone}
+use Rattle.board.specs.Slices.{memoriesFit}
+use Rattle.runfile.specs.declared.reading.Head.{Head}
+use Rattle.runfile.specs.Files.{Contents, wordAt, numbersOf, rulesKept, readAnswer, readContents, headOf}
+use Rattle.runfile.specs.SetUp.{lent, lentFit, setUpAnswer, loaded, setUp}
+use Rattle.runfile.specs.FileLaws.{accepted, head-read, rules-facts}
+use Rattle.emulator.specs.declared.Ran.{Ran}
+use Rattle.emulator.specs.World.{World, RunOutcome, ran}
+use Rattle.emulator.specs.Step.{runOf}
+use Rattle.line.specs.Lines.{lineOf, refusedLine, lineIn, lengthIn}
+use Rattle.replaying.specs.Replay.{startOf, replayRun, runLine, replayLine}
+use Rattle.replaying.specs.Facts.{FreshSlices}
+
+-- what was put down of a line, where the line has another name
+pub placed-as : (bytes : List ℕ) {line other after : List ℕ} {n : ℕ} → line ≡ other → (n ≡ lengthIn line bytes) × (after ≡ lineIn line bytes)
+    → (n ≡ lengthIn other bytes) × (after ≡ lineIn other bytes)
+placed-as bytes e p = rw (← e) p
+
+module _ (bytes : List ℕ) where
+  pub refused-replay : isDone (readAnswer bytes) ≡ false → refusedLine (readAnswer bytes) ≡ replayLine bytes
+  unfolding replayLine
+  refused-replay h = simp h
+
+  accepted-replay : isDone (readAnswer bytes) ≡ true → runLine (replayRun (readContents bytes)) ≡ replayLine bytes
+  unfolding replayLine
+  accepted-replay h = simp h
+
+  module _ (head : Head) (done : isDone (readAnswer bytes) ≡ true) (e : head ≡ headOf (readContents bytes)) where
+    pub input-most : head .«input_count» ≤ 1024
+    input-most = rw (e, head-read bytes done) (accepted bytes done .rules .counts .input-most)
+
+    pub input-counted : head .«input_count» ≡ length (readContents bytes .input)
+    unfolding headOf
+    input-counted = rw e
+
+    pub budget-read : head .budget ≡ readContents bytes .budget
+    unfolding headOf
+    budget-read = rw e
+
+    -- what `replay` lends for it
+    pub fresh : (rom dataMemory port output : List ℕ) → 4096 ≡ length rom → 4096 ≡ length dataMemory → 1024 ≡ length port → output ≡ replicate 1024 0
+        → FreshSlices bytes rom dataMemory (take (head .«input_count») port) output
+    fresh rom dataMemory port output r d i o =
+        record {
+          rom-size = sym r;
+          data-size = sym d;
+          input-size = length-take-le _ port (omega (arith, input-most)) ∙ input-counted;
+          output-zeros = o;
+        }
+
+  module _ {rom dataMemory input output : List ℕ} (done : isDone (readAnswer bytes) ≡ true) (f : FreshSlices bytes rom dataMemory input output) where
+    fresh-fit : lentFit (readContents bytes) (lent rom dataMemory input) ≡ true
+    unfolding lentFit memoriesFit
+    fresh-fit = simp (eq-eqb _ _ (f .rom-size), eq-eqb _ _ (f .data-size), eq-eqb _ _ (f .input-size))
+
+    fresh-loaded : setUp bytes (lent rom dataMemory input) ≡ loaded (readContents bytes)
+    unfolding setUp setUpAnswer
+    fresh-loaded = simp (done, fresh-fit)
+
+    -- an accepted file that is set up in fresh slices and run from reset gives its line
+    pub run-replay : {rom₁ data₁ input₁ data₂ output₂ : List ℕ} {m : Machine} {budget : ℕ} (r : Ran) → budget ≡ readContents bytes .budget
+        → rom₁ ≡ setUp bytes (lent rom dataMemory input) .rom
+        → data₁ ≡ setUp bytes (lent rom dataMemory input) .data-memory
+        → input₁ ≡ setUp bytes (lent rom dataMemory input) .input
+        → m ≡ resetMachine
+        → ran r data₂ output₂ ≡ runOf rom₁ input₁ budget (record { m = m; «data» = data₁; output = output })
+        → lineOf (r .answer) (r .steps) (r .m) output₂ ≡ replayLine bytes
+    unfolding runLine replayRun startOf
+    run-replay {data₂ = data₂} {output₂ = output₂} r b e₁ e₂ e₃ e₄ e =
+        let same : ran r data₂ output₂ ≡ replayRun (readContents bytes) = e ∙ rw (e₁, e₂, e₃, e₄, b, fresh-loaded, f .output-zeros) in
+        ap runLine same ∙ accepted-replay done

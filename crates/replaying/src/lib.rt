@@ -1,0 +1,84 @@
+// From the bytes of a run file to its line: all of `replay` but reading and writing.
+ghost use mathlib.Core.Path.{_≡_};
+ghost use mathlib.Core.Bool.{true};
+ghost use lib.ListN.{length, replicate};
+ghost use Rattle.answers.specs.Numbers.{isDone};
+ghost use Rattle.runfile.specs.Files.{readAnswer, readContents};
+ghost use Rattle.line.specs.Lines.{lineIn, lengthIn};
+ghost use Rattle.replaying.specs.Replay.{replayRun, runLine, replayLine};
+ghost use Rattle.replaying.specs.Facts.{FreshSlices};
+use emulator::run;
+use line::lines::refused_line;
+use line::lines::run_line;
+use machine::Machine;
+use runfile::reading::head_of;
+use runfile::reading::read_answer;
+use runfile::setting_up::set_up;
+
+// An accepted file, set up in fresh slices and run from reset: its line.
+fn replay_in(
+    bytes: &[u8],
+    budget: u16,
+    rom: &mut [u16],
+    data: &mut [u16],
+    input: &mut [u16],
+    output: &mut [u16],
+    line: &mut [u8],
+) -> usize
+    requires { ⌜ isDone (readAnswer (now bytes)) ≡ true ⌝ }
+    requires { ⌜ budget ≡ readContents (now bytes) .budget ⌝ }
+    requires { ⌜ FreshSlices (now bytes) (now rom) (now «data») (now input) (now output) ⌝ }
+    ensures { λ r. ⌜ (r ≡ lengthIn (replayLine (now (bytes .entry))) (now (line .entry))) × (now (line .exit) ≡ lineIn (replayLine (now (bytes .entry))) (now (line .entry))) ⌝ }
+{
+    set_up(bytes, rom, data, input);
+    let ran = run(Machine::reset(), rom, data, input, output, budget);
+    run_line(ran, output, line)
+}
+
+// A memory to be set up.
+fn memory() -> [u16; 4096]
+    ensures { λ r. ⌜ 4096 ≡ length r ⌝ }
+{
+    [0; 4096]
+}
+
+// The words of a port.
+fn port() -> [u16; 1024]
+    ensures { λ r. ⌜ (1024 ≡ length r) × (r ≡ replicate 1024 0) ⌝ }
+{
+    [0; 1024]
+}
+
+// An accepted file, with memories and ports of its own.
+fn replay_accepted(bytes: &[u8], line: &mut [u8]) -> usize
+    requires { ⌜ isDone (readAnswer (now bytes)) ≡ true ⌝ }
+    ensures { λ r. ⌜ (r ≡ lengthIn (replayLine (now (bytes .entry))) (now (line .entry))) × (now (line .exit) ≡ lineIn (replayLine (now (bytes .entry))) (now (line .entry))) ⌝ }
+{
+    let head = head_of(bytes);
+    let count = head.input_count as usize;
+    let mut rom = memory();
+    let mut data = memory();
+    let mut input = port();
+    let mut output = port();
+    replay_in(
+        bytes,
+        head.budget,
+        &mut rom,
+        &mut data,
+        &mut input[..count],
+        &mut output,
+        line,
+    )
+}
+
+// What `replay` prints of a file, at the start of lent bytes, and its length; where it does not fit, 0 and no byte is put down.
+pub fn replayed(bytes: &[u8], line: &mut [u8]) -> usize
+    ensures { λ r. ⌜ (r ≡ lengthIn (replayLine (now (bytes .entry))) (now (line .entry))) × (now (line .exit) ≡ lineIn (replayLine (now (bytes .entry))) (now (line .entry))) ⌝ }
+{
+    let answer = read_answer(bytes);
+    if answers::is_done(answer) {
+        replay_accepted(bytes, line)
+    } else {
+        refused_line(answer, line)
+    }
+}
