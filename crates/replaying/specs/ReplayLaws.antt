@@ -4,13 +4,13 @@ use mathlib.Core.Bool.{Bool, true, false, cond, false≢true}
 use mathlib.Core.List.{List}
 use Prim.Native.Nat.{ℕ, _+_, _≤_, _<_}
 use native.Mathlib.Omega.{arith}
-use lib.Dec.{ltb, eqb}
-use lib.ListN.{length, take, getD, replicate}
+use lib.Dec.{ltb, leb, eqb}
+use lib.ListN.{length, take, getD, replicate, length-append}
 use lib.Seq.{take-all, length-take-le, getD-take}
-use borrow.Author.Tests.{eq-eqb, le-ltb}
+use borrow.Author.Tests.{eq-eqb, le-ltb, ltb-true, ltb-false}
 use Rattle.machine.specs.declared.Machine.{Machine}
 use Rattle.machine.specs.Reset.{resetMachine}
-use Rattle.answers.specs.declared.Answer.the-variants.{Done, FileRules, FileVersion}
+use Rattle.answers.specs.declared.Answer.the-variants.{Done, FileShort, FileRules, FileVersion}
 use Rattle.answers.specs.Numbers.{isDone}
 use Rattle.board.specs.Slices.{memoriesFit}
 use Rattle.runfile.specs.declared.reading.Head.{Head}
@@ -82,3 +82,52 @@ module _ (bytes : List ℕ) where
     run-replay {data₂ = data₂} {output₂ = output₂} r b e₁ e₂ e₃ e₄ e =
         let same : ran r data₂ output₂ ≡ replayRun (readContents bytes) = e ∙ rw (e₁, e₂, e₃, e₄, b, fresh-loaded, f .output-zeros) in
         ap runLine same ∙ accepted-replay done
+
+-- how many bytes were put down is a count of the bytes lent
+pub placed-counts : (line bytes : List ℕ) {after : List ℕ} {n : ℕ} → (n ≡ lengthIn line bytes) × (after ≡ lineIn line bytes) → (n ≤ length after) × (n ≡ length (take n after))
+unfolding lineIn lengthIn
+placed-counts line bytes {after} {n} p = (most, sym (length-take-le n after most))
+  where
+    by : (t : Bool) → leb (length line) (length bytes) ≡ t → lengthIn line bytes ≤ length (lineIn line bytes)
+    by true e = simp (e, length-append) (omega arith)
+    by false e = simp e (omega arith)
+
+    most : n ≤ length after
+    most = rw (p .0, p .1) (by (leb (length line) (length bytes)) refl)
+
+-- A file has at most 16,400 bytes (16 and two for each of 4,096 + 3,072 + 1,024 words), so the first 16,401 of a longer one give its line.
+too-long : (bytes : List ℕ) → 16401 ≤ length bytes → readAnswer bytes ≡ cond (eqb (numbersOf bytes .version) 1) FileRules FileVersion
+unfolding readAnswer
+too-long bytes h = by (rulesKept (numbersOf bytes) (length bytes)) refl
+  where
+    by : (t : Bool) → rulesKept (numbersOf bytes) (length bytes) ≡ t
+        → cond (ltb (length bytes) 16) FileShort (cond (eqb (numbersOf bytes .version) 1) (cond (rulesKept (numbersOf bytes) (length bytes)) Done FileRules) FileVersion)
+        ≡ cond (eqb (numbersOf bytes .version) 1) FileRules FileVersion
+    by true e =
+        let r = rules-facts _ _ e in
+        absurd (omega (arith, r .counts .program-most, r .counts .data-most, r .counts .input-most, r .program-starts, r .data-starts, r .input-starts, r .file-ends))
+    by false e = simp (le-ltb (length bytes) 16 (omega arith), e)
+
+refused-version : (t : Bool) → isDone (cond t FileRules FileVersion) ≡ false
+refused-version true = refl
+refused-version false = refl
+
+module _ (bytes : List ℕ) (k : ℕ) (h : 16401 ≤ k) where
+  cut-version : numbersOf (take k bytes) .version ≡ numbersOf bytes .version
+  unfolding numbersOf
+  cut-version = rw (getD-take k bytes 0 0 (omega arith), getD-take k bytes 1 0 (omega arith))
+
+  cut-long : k < length bytes → replayLine (take k bytes) ≡ replayLine bytes
+  cut-long longer =
+      let whole = too-long bytes (omega arith) in
+      let part = too-long (take k bytes) (rw (length-take-le k bytes (omega arith)) h) in
+      let same : readAnswer (take k bytes) ≡ readAnswer bytes = part ∙ rw cut-version (sym whole) in
+      let refused : isDone (readAnswer bytes) ≡ false = rw whole (refused-version (eqb (numbersOf bytes .version) 1)) in
+      sym (refused-replay (take k bytes) (rw same refused)) ∙ rw same (refused-replay bytes refused)
+
+  pub cut-replay : replayLine (take k bytes) ≡ replayLine bytes
+  cut-replay = by (ltb k (length bytes)) refl
+    where
+      by : (t : Bool) → ltb k (length bytes) ≡ t → replayLine (take k bytes) ≡ replayLine bytes
+      by true e = cut-long (ltb-true _ _ e)
+      by false e = ap replayLine (take-all k bytes (ltb-false _ _ e))

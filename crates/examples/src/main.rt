@@ -1,0 +1,40 @@
+// Prints the name and the line of each example file.
+const STDOUT: i32 = 1;
+
+fn print_replay(fd: i32) {
+    let mut file = io::large_buffer();
+    let length = io::read_full(fd, &mut file);
+    let mut line = io::large_buffer();
+    let end = replaying::replayed(&file[..length], &mut line);
+    io::write_all(STDOUT, &line[..end]);
+}
+
+fn show(name: &[u8]) {
+    io::write_all(STDOUT, name);
+    io::write_all(STDOUT, b": ");
+    let fd = os::open_read(name);
+    print_replay(fd);
+    libc::close(fd);
+}
+
+fn main() {
+    show(b"first");
+    show(b"frames-127-held");
+    show(b"frames-127-free");
+    show(b"frames-128-held");
+    show(b"frames-128-free");
+    show(b"convolution");
+    show(b"division");
+    show(b"copy");
+    show(b"refused-3");
+    show(b"refused-4");
+    show(b"refused-5");
+    show(b"refused-6");
+    show(b"refused-7");
+    show(b"refused-9");
+    show(b"refused-10");
+    show(b"refused-20");
+    show(b"refused-21");
+    show(b"refused-22");
+    show(b"refused-22-long");
+}
