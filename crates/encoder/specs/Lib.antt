@@ -1,0 +1,6 @@
+pub mod Encode
+pub mod Bits
+pub mod Spelled
+pub mod Rows
+pub mod Cleared
+pub mod Back
