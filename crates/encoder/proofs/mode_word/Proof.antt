@@ -1,0 +1,110 @@
+use mathlib.Core.Path.{refl, sym, _∙_}
+use Rattle.encoder.specs.Encode.{wordOf, modeFields}
+use Rattle.encoder.specs.Bits.{field-after}
+use Rattle.encoder.specs.EncodeLaws.{by-case, of-address}
+use borrow.Author.Needs.{needs}
+use Rattle.encoder.proofs.mode_word.Statement.{statement}
+use Rattle.encoder.proofs.mode_word.Tie as tie
+
+enum-told : tie.Need-enum-told
+enum-told c = search needs
+
+enum-told-2 : tie.Need-enum-told-2
+enum-told-2 c = search needs
+
+enum-told-3 : tie.Need-enum-told-3
+enum-told-3 c = search needs
+
+enum-told-4 : tie.Need-enum-told-4
+enum-told-4 c = search needs
+
+enum-told-5 : tie.Need-enum-told-5
+enum-told-5 c = search needs
+
+enum-told-6 : tie.Need-enum-told-6
+enum-told-6 c = search needs
+
+enum-known-x : tie.Need-enum-known-x
+enum-known-x c = search needs
+
+addressed-requires : tie.Need-addressed-requires
+addressed-requires c κs = search needs
+
+enum-known-x-2 : tie.Need-enum-known-x-2
+enum-known-x-2 c = search needs
+
+constant-requires : tie.Need-constant-requires
+constant-requires c κs = search needs
+
+enum-told-7 : tie.Need-enum-told-7
+enum-told-7 c = search needs
+
+enum-told-8 : tie.Need-enum-told-8
+enum-told-8 c = search needs
+
+returns : tie.Need-returns
+unfolding wordOf modeFields
+returns c = by-case (λ y. wordOf (modeFields y)) (c .enum-told .given .1) (refl)
+
+returns-2 : tie.Need-returns-2
+unfolding wordOf modeFields
+returns-2 c = by-case (λ y. wordOf (modeFields y)) (c .enum-told2 .given .1) (refl)
+
+returns-3 : tie.Need-returns-3
+unfolding wordOf modeFields
+returns-3 c = by-case (λ y. wordOf (modeFields y)) (c .enum-told3 .given .1) (refl)
+
+returns-4 : tie.Need-returns-4
+unfolding wordOf modeFields
+returns-4 c = by-case (λ y. wordOf (modeFields y)) (c .enum-told4 .given .1) (refl)
+
+returns-5 : tie.Need-returns-5
+unfolding wordOf modeFields
+returns-5 c = by-case (λ y. wordOf (modeFields y)) (c .enum-told5 .given .1) (refl)
+
+returns-6 : tie.Need-returns-6
+unfolding wordOf modeFields
+returns-6 c = by-case (λ y. wordOf (modeFields y)) (c .enum-told6 .given .1) (refl)
+
+returns-7 : tie.Need-returns-7
+unfolding wordOf modeFields
+returns-7 c = by-case (λ y. wordOf (modeFields y)) (c .before .before .x .given .1) (of-address 0x4B _ (c .addressed .ensures))
+
+returns-8 : tie.Need-returns-8
+unfolding wordOf modeFields
+returns-8 c = by-case (λ y. wordOf (modeFields y)) (c .before .before .x2 .given .1) (c .constant .ensures ∙ sym (field-after _ 0xCB 8))
+
+returns-9 : tie.Need-returns-9
+unfolding wordOf modeFields
+returns-9 c = by-case (λ y. wordOf (modeFields y)) (c .enum-told7 .given .1) (refl)
+
+returns-10 : tie.Need-returns-10
+unfolding wordOf modeFields
+returns-10 c = by-case (λ y. wordOf (modeFields y)) (c .enum-told8 .given .1) (refl)
+
+pub mode-word-spec : {M : Type 1} → statement M
+mode-word-spec =
+    tie.close
+    (tie.spec
+    enum-told
+    enum-told-2
+    enum-told-3
+    enum-told-4
+    enum-told-5
+    enum-told-6
+    enum-known-x
+    addressed-requires
+    enum-known-x-2
+    constant-requires
+    enum-told-7
+    enum-told-8
+    returns
+    returns-2
+    returns-3
+    returns-4
+    returns-5
+    returns-6
+    returns-7
+    returns-8
+    returns-9
+    returns-10)

@@ -1,0 +1,251 @@
+use mathlib.Core.Path.{refl, sym}
+use Rattle.encoder.specs.Encode.{wordOf, multiplierFields}
+use Rattle.encoder.specs.Bits.{field-after}
+use Rattle.encoder.specs.EncodeLaws.{by-case, of-address}
+use borrow.Author.Needs.{needs}
+use Rattle.encoder.proofs.multiplier_word.Statement.{statement}
+use Rattle.encoder.proofs.multiplier_word.Tie as tie
+
+enum-known-x : tie.Need-enum-known-x
+enum-known-x c = search needs
+
+addressed-requires : tie.Need-addressed-requires
+addressed-requires c κs = search needs
+
+enum-known-x-2 : tie.Need-enum-known-x-2
+enum-known-x-2 c = search needs
+
+addressed-requires-2 : tie.Need-addressed-requires-2
+addressed-requires-2 c κs = search needs
+
+enum-known-x-3 : tie.Need-enum-known-x-3
+enum-known-x-3 c = search needs
+
+addressed-requires-3 : tie.Need-addressed-requires-3
+addressed-requires-3 c κs = search needs
+
+enum-known-x-4 : tie.Need-enum-known-x-4
+enum-known-x-4 c = search needs
+
+addressed-requires-4 : tie.Need-addressed-requires-4
+addressed-requires-4 c κs = search needs
+
+enum-known-x-5 : tie.Need-enum-known-x-5
+enum-known-x-5 c = search needs
+
+addressed-requires-5 : tie.Need-addressed-requires-5
+addressed-requires-5 c κs = search needs
+
+enum-known-x-6 : tie.Need-enum-known-x-6
+enum-known-x-6 c = search needs
+
+addressed-requires-6 : tie.Need-addressed-requires-6
+addressed-requires-6 c κs = search needs
+
+enum-known-x-7 : tie.Need-enum-known-x-7
+enum-known-x-7 c = search needs
+
+addressed-requires-7 : tie.Need-addressed-requires-7
+addressed-requires-7 c κs = search needs
+
+enum-known-x-8 : tie.Need-enum-known-x-8
+enum-known-x-8 c = search needs
+
+addressed-requires-8 : tie.Need-addressed-requires-8
+addressed-requires-8 c κs = search needs
+
+enum-known-x-9 : tie.Need-enum-known-x-9
+enum-known-x-9 c = search needs
+
+add-result : tie.Need-add-result
+add-result c = search needs
+
+enum-known-x-10 : tie.Need-enum-known-x-10
+enum-known-x-10 c = search needs
+
+addressed-requires-9 : tie.Need-addressed-requires-9
+addressed-requires-9 c κs = search needs
+
+enum-known-x-11 : tie.Need-enum-known-x-11
+enum-known-x-11 c = search needs
+
+addressed-requires-10 : tie.Need-addressed-requires-10
+addressed-requires-10 c κs = search needs
+
+enum-known-x-12 : tie.Need-enum-known-x-12
+enum-known-x-12 c = search needs
+
+addressed-requires-11 : tie.Need-addressed-requires-11
+addressed-requires-11 c κs = search needs
+
+enum-known-x-13 : tie.Need-enum-known-x-13
+enum-known-x-13 c = search needs
+
+addressed-requires-12 : tie.Need-addressed-requires-12
+addressed-requires-12 c κs = search needs
+
+enum-told : tie.Need-enum-told
+enum-told c = search needs
+
+enum-told-2 : tie.Need-enum-told-2
+enum-told-2 c = search needs
+
+enum-told-3 : tie.Need-enum-told-3
+enum-told-3 c = search needs
+
+enum-known-x-14 : tie.Need-enum-known-x-14
+enum-known-x-14 c = search needs
+
+addressed-requires-13 : tie.Need-addressed-requires-13
+addressed-requires-13 c κs = search needs
+
+enum-known-x-15 : tie.Need-enum-known-x-15
+enum-known-x-15 c = search needs
+
+addressed-requires-14 : tie.Need-addressed-requires-14
+addressed-requires-14 c κs = search needs
+
+enum-known-x-16 : tie.Need-enum-known-x-16
+enum-known-x-16 c = search needs
+
+cast-result : tie.Need-cast-result
+cast-result c = search needs
+
+add-result-2 : tie.Need-add-result-2
+add-result-2 c = search needs
+
+returns : tie.Need-returns
+unfolding wordOf multiplierFields
+returns c = by-case (λ y. wordOf (multiplierFields y)) (c .before .before .x .given .1) (of-address 0x3C _ (c .addressed .ensures))
+
+returns-2 : tie.Need-returns-2
+unfolding wordOf multiplierFields
+returns-2 c = by-case (λ y. wordOf (multiplierFields y)) (c .before .before .x2 .given .1) (of-address 0x3D _ (c .addressed2 .ensures))
+
+returns-3 : tie.Need-returns-3
+unfolding wordOf multiplierFields
+returns-3 c = by-case (λ y. wordOf (multiplierFields y)) (c .before .before .x3 .given .1) (of-address 0x3E _ (c .addressed3 .ensures))
+
+returns-4 : tie.Need-returns-4
+unfolding wordOf multiplierFields
+returns-4 c = by-case (λ y. wordOf (multiplierFields y)) (c .before .before .x4 .given .1) (of-address 0x3F _ (c .addressed4 .ensures))
+
+returns-5 : tie.Need-returns-5
+unfolding wordOf multiplierFields
+returns-5 c = by-case (λ y. wordOf (multiplierFields y)) (c .before .before .x5 .given .1) (of-address 0x5B _ (c .addressed5 .ensures))
+
+returns-6 : tie.Need-returns-6
+unfolding wordOf multiplierFields
+returns-6 c = by-case (λ y. wordOf (multiplierFields y)) (c .before .before .x6 .given .1) (of-address 0x38 _ (c .addressed6 .ensures))
+
+returns-7 : tie.Need-returns-7
+unfolding wordOf multiplierFields
+returns-7 c = by-case (λ y. wordOf (multiplierFields y)) (c .before .before .x7 .given .1) (of-address 0x3A _ (c .addressed7 .ensures))
+
+returns-8 : tie.Need-returns-8
+unfolding wordOf multiplierFields
+returns-8 c = by-case (λ y. wordOf (multiplierFields y)) (c .before .before .x8 .given .1) (of-address 0x3B _ (c .addressed8 .ensures))
+
+returns-9 : tie.Need-returns-9
+unfolding wordOf multiplierFields
+returns-9 c = by-case (λ y. wordOf (multiplierFields y)) (c .before .x9 .given .1) (sym (field-after _ 5 13))
+
+returns-10 : tie.Need-returns-10
+unfolding wordOf multiplierFields
+returns-10 c = by-case (λ y. wordOf (multiplierFields y)) (c .before .before .x10 .given .1) (of-address 0x39 _ (c .addressed9 .ensures))
+
+returns-11 : tie.Need-returns-11
+unfolding wordOf multiplierFields
+returns-11 c = by-case (λ y. wordOf (multiplierFields y)) (c .before .before .x11 .given .1) (of-address 0x5A _ (c .addressed10 .ensures))
+
+returns-12 : tie.Need-returns-12
+unfolding wordOf multiplierFields
+returns-12 c = by-case (λ y. wordOf (multiplierFields y)) (c .before .before .x12 .given .1) (of-address 0x5D _ (c .addressed11 .ensures))
+
+returns-13 : tie.Need-returns-13
+unfolding wordOf multiplierFields
+returns-13 c = by-case (λ y. wordOf (multiplierFields y)) (c .before .before .x13 .given .1) (of-address 0x5C _ (c .addressed12 .ensures))
+
+returns-14 : tie.Need-returns-14
+unfolding wordOf multiplierFields
+returns-14 c = by-case (λ y. wordOf (multiplierFields y)) (c .enum-told .given .1) (refl)
+
+returns-15 : tie.Need-returns-15
+unfolding wordOf multiplierFields
+returns-15 c = by-case (λ y. wordOf (multiplierFields y)) (c .enum-told2 .given .1) (refl)
+
+returns-16 : tie.Need-returns-16
+unfolding wordOf multiplierFields
+returns-16 c = by-case (λ y. wordOf (multiplierFields y)) (c .enum-told3 .given .1) (refl)
+
+returns-17 : tie.Need-returns-17
+unfolding wordOf multiplierFields
+returns-17 c = by-case (λ y. wordOf (multiplierFields y)) (c .before .before .x14 .given .1) (of-address 0x7C _ (c .addressed13 .ensures))
+
+returns-18 : tie.Need-returns-18
+unfolding wordOf multiplierFields
+returns-18 c = by-case (λ y. wordOf (multiplierFields y)) (c .before .before .x15 .given .1) (of-address 0x7D _ (c .addressed14 .ensures))
+
+returns-19 : tie.Need-returns-19
+unfolding wordOf multiplierFields
+returns-19 c = by-case (λ y. wordOf (multiplierFields y)) (c .before .x16 .given .1) (sym (field-after _ 0x3382 2))
+
+pub multiplier-word-spec : {M : Type 1} → statement M
+multiplier-word-spec =
+    tie.close
+    (tie.spec
+    enum-known-x
+    addressed-requires
+    enum-known-x-2
+    addressed-requires-2
+    enum-known-x-3
+    addressed-requires-3
+    enum-known-x-4
+    addressed-requires-4
+    enum-known-x-5
+    addressed-requires-5
+    enum-known-x-6
+    addressed-requires-6
+    enum-known-x-7
+    addressed-requires-7
+    enum-known-x-8
+    addressed-requires-8
+    enum-known-x-9
+    add-result
+    enum-known-x-10
+    addressed-requires-9
+    enum-known-x-11
+    addressed-requires-10
+    enum-known-x-12
+    addressed-requires-11
+    enum-known-x-13
+    addressed-requires-12
+    enum-told
+    enum-told-2
+    enum-told-3
+    enum-known-x-14
+    addressed-requires-13
+    enum-known-x-15
+    addressed-requires-14
+    enum-known-x-16
+    cast-result
+    add-result-2
+    returns
+    returns-2
+    returns-3
+    returns-4
+    returns-5
+    returns-6
+    returns-7
+    returns-8
+    returns-9
+    returns-10
+    returns-11
+    returns-12
+    returns-13
+    returns-14
+    returns-15
+    returns-16
+    returns-17
+    returns-18
+    returns-19)

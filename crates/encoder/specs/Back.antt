@@ -1,0 +1,207 @@
+-- Decoding an instruction's word gives the instruction back.
+use mathlib.Core.Path.{_≡_, refl, sym, subst, _∙_, ap}
+use mathlib.Core.Bool.{Bool, true, false, not}
+use mathlib.Core.List.{List, [], _∷_, _++_, map}
+use Prim.Native.Nat.{ℕ, zero, suc, _/_, _%_, _<_}
+use Prim.Native.String.{String}
+use native.Mathlib.Nat.{le-of-suc-le-suc, not-suc-le-zero}
+use native.Mathlib.Omega.{arith}
+use lib.Dec.{T, eqb, eqb→eq}
+use lib.ListN.{length}
+use lib.Text.{eqt→eq}
+use Rattle.instructions.specs.Every.{both-left, both-right, all, by-order}
+use Rattle.instructions.specs.Encoding.{Row, row, pick, both, fits, has, means, lowFits, addressOf, indirectOf}
+use Rattle.instructions.specs.Pages.{basePages, otherPages, pages}
+use Rattle.instructions.specs.Decode.{decodeOf}
+use Rattle.instructions.specs.Places.{placeIn, meaningIn, meaningAt, decode-at-place}
+use Rattle.apart.specs.Apart.{hasAt, own-meaning}
+use Rattle.meanings.specs.Past.{past-base, past-pages}
+use Rattle.instructions.specs.declared.Instruction.{Instruction}
+use Rattle.instructions.specs.declared.Decoded.{Decoded}
+use Rattle.instructions.specs.declared.Decoded.the-variants.{Base, Published, Nothing}
+use Rattle.encoder.specs.Encode.{text, isIndirect, addressBits, indirectBits, wordOf, encodeOf}
+use Rattle.encoder.specs.Spelled.{framed, everyRow, all-framed, read, word-back}
+use Rattle.encoder.specs.Rows.{fields, isOperand, isBranch, unread, plain-rows, operand-rows, branch-rows, same-rows}
+use Rattle.encoder.specs.Cleared.{cleared, lowTest, low-test, operandFields, branchOperand, operands-tested, branches-tested, same-operand, clearedWord, cleared-lt, cleared-low, cleared-upper}
+
+-- a word of a page that decodes to what w decodes to there, and that is the word of it
+record Kept (r : Row) (w : ℕ) : Type 0 where
+  v : ℕ
+  below : v < 65536
+  owned : T (has r v)
+  same : means r v ≡ means r w
+  spelt : wordOf (fields (means r v)) ≡ v
+
+both-join : (a b : Bool) → T a → T b → T (both a b)
+both-join true b s t = t
+both-join false b s t = s
+
+keep : (r : Row) (v w : ℕ) → T (framed r) → v < 65536 → T (has r v) → means r v ≡ means r w → fields (means r v) ≡ read r v → Kept r w
+unfolding lowFits
+keep r v w f h o m e =
+    record {
+      v = v;
+      below = h;
+      owned = o;
+      same = m;
+      spelt = ap wordOf e ∙ word-back r v f h (both-left (fits (r .upper) 8 (v / 256)) (lowFits (r .lower) (v % 256)) o)
+          (both-left (fits (r .lower) 8 (v % 256)) _ (both-right (fits (r .upper) 8 (v / 256)) (lowFits (r .lower) (v % 256)) o));
+    }
+
+-- a page with a low byte as t, that has the word, has it without the bits that are free
+cleared-owned : (r : Row) (w : ℕ) → T (lowFits (r .lower) (cleared (w % 256))) → T (has r w) → T (has r (clearedWord w))
+cleared-owned r w l o =
+    rw (cleared-upper w, cleared-low w)
+    (both-join (fits (r .upper) 8 (w / 256)) (lowFits (r .lower) (cleared (w % 256)))
+    (both-left (fits (r .upper) 8 (w / 256)) (lowFits (r .lower) (w % 256)) o) l)
+
+-- its low byte, at a text that is the page's
+low-passes : (r : Row) (w : ℕ) (t : String) (f : ℕ → Bool) → T (all (lowTest t f) 8 0) → r .lower ≡ t → T (has r w)
+    → T (has r (clearedWord w)) × T (f (cleared (w % 256)))
+low-passes r w t f a e o =
+    let s : T (both (lowFits t (cleared (w % 256))) (f (cleared (w % 256))))
+    = low-test t f (w % 256) a (omega arith)
+    (subst (λ (x : String). T (lowFits x (w % 256))) e (both-right (fits (r .upper) 8 (w / 256)) (lowFits (r .lower) (w % 256)) o)) in (
+      cleared-owned r w
+          (subst (λ (x : String). T (lowFits x (cleared (w % 256)))) (sym e) (both-left (lowFits t (cleared (w % 256))) (f (cleared (w % 256))) s)) o,
+      both-right (lowFits t (cleared (w % 256))) (f (cleared (w % 256))) s,
+    )
+
+-- what the tests say of I and D
+isIndirect-is : (v low : ℕ) → v % 256 ≡ low → T (operandFields low) → isIndirect (addressOf (v % 256)) ≡ v / 128 % 2
+isIndirect-is v low e t =
+    let x : isIndirect (addressOf low) ≡ low / 128 % 2
+    = eqb→eq (isIndirect (addressOf low)) (low / 128 % 2)
+    (both-left (eqb (isIndirect (addressOf low)) (low / 128 % 2)) (eqb (addressBits (addressOf low)) (low % 128)) t) in
+    rw e (x ∙ omega arith)
+
+addressBits-is : (v low : ℕ) → v % 256 ≡ low → T (operandFields low) → addressBits (addressOf (v % 256)) ≡ v / 1 % 128
+addressBits-is v low e t =
+    let x : addressBits (addressOf low) ≡ low % 128
+    = eqb→eq (addressBits (addressOf low)) (low % 128)
+    (both-right (eqb (isIndirect (addressOf low)) (low / 128 % 2)) (eqb (addressBits (addressOf low)) (low % 128)) t) in
+    rw e (x ∙ omega arith)
+
+indirectBits-is : (v low : ℕ) → v % 256 ≡ low → T (branchOperand low) → indirectBits (indirectOf (v % 256)) ≡ v / 1 % 128
+indirectBits-is v low e t =
+    let x : indirectBits (indirectOf low) ≡ low % 128 = eqb→eq (indirectBits (indirectOf low)) (low % 128) t in
+    rw e (x ∙ omega arith)
+
+-- what the lists of rows say at one row: o and b are whether it takes an operand or is a branch
+row-kept : (r : Row) (w : ℕ) (o b : Bool) → (T o → r .lower ≡ "IDDD DDDD") → (T b → r .lower ≡ "1DDD DDDD") → T (framed r)
+    → w < 65536 → T (has r w)
+    → pick o unread (pick b unread (fields (means r w))) ≡ pick o unread (pick b unread (read r w))
+    → pick o (means r (clearedWord w)) (pick b (means r (clearedWord w)) Nothing) ≡ pick o (means r w) (pick b (means r w) Nothing)
+    → (isIndirect (addressOf (clearedWord w % 256)) ≡ clearedWord w / 128 % 2
+    → addressBits (addressOf (clearedWord w % 256)) ≡ clearedWord w / 1 % 128
+    → pick o (fields (means r (clearedWord w))) unread ≡ pick o (read r (clearedWord w)) unread)
+    → (indirectBits (indirectOf (clearedWord w % 256)) ≡ clearedWord w / 1 % 128
+    → pick b (fields (means r (clearedWord w))) unread ≡ pick b (read r (clearedWord w)) unread)
+    → Kept r w
+row-kept r w true b ol bl f h t plain same operands branch =
+    let p : T (has r (clearedWord w)) × T (operandFields (cleared (w % 256)))
+    = low-passes r w "IDDD DDDD" operandFields operands-tested (ol tt) t in
+    keep r (clearedWord w) w f (omega (arith, cleared-lt w)) (p .0) same
+    (operands (isIndirect-is (clearedWord w) (cleared (w % 256)) (cleared-low w) (p .1))
+    (addressBits-is (clearedWord w) (cleared (w % 256)) (cleared-low w) (p .1)))
+row-kept r w false true ol bl f h t plain same operands branch =
+    let p : T (has r (clearedWord w)) × T (branchOperand (cleared (w % 256)))
+    = low-passes r w "1DDD DDDD" branchOperand branches-tested (bl tt) t in
+    keep r (clearedWord w) w f (omega (arith, cleared-lt w)) (p .0) same
+    (branch (indirectBits-is (clearedWord w) (cleared (w % 256)) (cleared-low w) (p .1)))
+row-kept r w false false ol bl f h t plain same operands branch = keep r w w f h t refl plain
+
+-- the row at a place
+abbrev rowAt : List Row → ℕ → Row
+rowAt [] p = row "" "" "" (λ f low. Nothing)
+rowAt (r ∷ rs) zero = r
+rowAt (r ∷ rs) (suc p) = rowAt rs p
+
+every-at : (f : Row → Bool) (rs : List Row) (p : ℕ) → p < length rs → T (everyRow f rs) → T (f (rowAt rs p))
+unfolding everyRow
+every-at f [] p h t = absurd (not-suc-le-zero h)
+every-at f (r ∷ rs) zero h t = both-left (f r) (everyRow f rs) t
+every-at f (r ∷ rs) (suc p) h t = every-at f rs p (le-of-suc-le-suc h) (both-right (f r) (everyRow f rs) t)
+
+abbrev headOr : {A : Type 0} → A → List A → A
+headOr d [] = d
+headOr d (x ∷ xs) = x
+
+abbrev rest : {A : Type 0} → List A → List A
+rest [] = []
+rest (x ∷ xs) = xs
+
+same-at : {A : Type 0} (f g : Row → A) (rs : List Row) (p : ℕ) → p < length rs → map f rs ≡ map g rs → f (rowAt rs p) ≡ g (rowAt rs p)
+same-at f g [] p h e = absurd (not-suc-le-zero h)
+same-at f g (r ∷ rs) zero h e = ap (headOr (f r)) e
+same-at f g (r ∷ rs) (suc p) h e = same-at f g rs p (le-of-suc-le-suc h) (ap rest e)
+
+has-at : (rs qs : List Row) (p w : ℕ) → p < length rs → hasAt (rs ++ qs) p w ≡ has (rowAt rs p) w
+has-at [] qs p w h = absurd (not-suc-le-zero h)
+has-at (r ∷ rs) qs zero w h = refl
+has-at (r ∷ rs) qs (suc p) w h = has-at rs qs p w (le-of-suc-le-suc h)
+
+means-at : (rs qs : List Row) (p w : ℕ) → p < length rs → meaningIn (rs ++ qs) p w ≡ means (rowAt rs p) w
+means-at [] qs p w h = absurd (not-suc-le-zero h)
+means-at (r ∷ rs) qs zero w h = refl
+means-at (r ∷ rs) qs (suc p) w h = means-at rs qs p w (le-of-suc-le-suc h)
+
+place-has : (rs : List Row) (w : ℕ) → placeIn rs w < length rs → T (hasAt rs (placeIn rs w) w)
+place-has [] w h = absurd (not-suc-le-zero h)
+place-has (r ∷ rs) w h = go (has r w) refl h (place-has rs w)
+  where
+    go : (b : Bool) → has r w ≡ b → pick b 0 (suc (placeIn rs w)) < suc (length rs)
+        → (placeIn rs w < length rs → T (hasAt rs (placeIn rs w) w)) → T (hasAt (r ∷ rs) (pick b 0 (suc (placeIn rs w))) w)
+    go true e h k = subst (λ (x : Bool). T x) (sym e) tt
+    go false e h k = k (le-of-suc-le-suc h)
+
+kept-at : (p w : ℕ) → p < 75 → w < 65536 → T (has (rowAt basePages p) w) → Kept (rowAt basePages p) w
+kept-at p w l h t =
+    let n : p < length basePages = l in
+    let r : Row = rowAt basePages p in
+    let v : ℕ = clearedWord w in
+    let lv : v % 256 ≡ cleared (w % 256) = cleared-low w in
+    row-kept r w (isOperand r) (isBranch r) (eqt→eq (r .lower) "IDDD DDDD") (eqt→eq (r .lower) "1DDD DDDD")
+    (every-at framed basePages p n all-framed) h t
+    (same-at (λ q. pick (isOperand q) unread (pick (isBranch q) unread (fields (means q w)))) (λ q. pick (isOperand q) unread (pick (isBranch q) unread (read q w))) basePages p n (plain-rows w))
+    (same-at (λ q. pick (isOperand q) (means q v) (pick (isBranch q) (means q v) Nothing)) (λ q. pick (isOperand q) (means q w) (pick (isBranch q) (means q w) Nothing)) basePages p n
+    (same-rows w v (cleared-upper w) (ap addressOf lv ∙ same-operand (w % 256) .0) (ap indirectOf lv ∙ same-operand (w % 256) .1)))
+    (λ a b. same-at (λ q. pick (isOperand q) (fields (means q v)) unread) (λ q. pick (isOperand q) (read q v) unread) basePages p n (operand-rows v a b))
+    (λ a. same-at (λ q. pick (isBranch q) (fields (means q v)) unread) (λ q. pick (isBranch q) (read q v) unread) basePages p n (branch-rows v a))
+
+isBase : Decoded → Bool
+isBase (Base i) = true
+isBase Published = false
+isBase Nothing = false
+
+no-base : (d : Decoded) (i : Instruction) → d ≡ Base i → T (not (isBase d)) → ⊥
+unfolding isBase
+no-base d i e t = subst (λ (x : Decoded). T (not (isBase x))) e t
+
+-- Decoding the word of an instruction that some word decodes to gives that instruction.
+pub decode-encode : (w : ℕ) (i : Instruction) → w < 65536 → decodeOf w ≡ Base i → decodeOf (encodeOf i) ≡ Base i
+unfolding isBase meaningAt encodeOf fields
+decode-encode w i h e =
+    by-order p 75 base
+    (λ a. by-order p 133 (λ b. absurd (no-base Published i (sym (past-base p w a b) ∙ m) tt))
+    (λ b. absurd (no-base Nothing i (sym (past-pages p w b) ∙ m) tt)))
+  where
+    p : ℕ
+    p = placeIn pages w
+
+    m : meaningAt (placeIn pages w) w ≡ Base i
+    m = sym (decode-at-place w) ∙ e
+
+    base : placeIn pages w < 75 → decodeOf (encodeOf i) ≡ Base i
+    base l =
+        let r : Row = rowAt basePages (placeIn pages w) in
+        let t : T (has r w)
+        = subst (λ (b : Bool). T b) (has-at basePages otherPages (placeIn pages w) w l) (place-has pages w (omega arith)) in
+        let k : Kept r w = kept-at (placeIn pages w) w l h t in
+        let q : means r (k .v) ≡ Base i = k .same ∙ sym (means-at basePages otherPages (placeIn pages w) w l) ∙ m in
+        let s : encodeOf i ≡ k .v = ap (λ (d : Decoded). wordOf (fields d)) (sym q) ∙ k .spelt in
+        ap decodeOf s
+        ∙ own-meaning (placeIn pages w) (k .v) (k .below) (omega arith)
+        (subst (λ (b : Bool). T b) (sym (has-at basePages otherPages (placeIn pages w) (k .v) l)) (k .owned))
+        ∙ means-at basePages otherPages (placeIn pages w) (k .v) l
+        ∙ q

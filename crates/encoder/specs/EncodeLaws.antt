@@ -1,0 +1,54 @@
+-- What the encoder's proofs cite of the words: bounds of the operand's bits, and a page's bits field by field.
+use mathlib.Core.Path.{_≡_, refl, sym, _∙_, ap}
+use Prim.Native.Nat.{ℕ, _+_, _*_, _/_, _%_, _^_, _<_}
+use native.Mathlib.Omega.{arith}
+use lib.Dec.{ltb→lt}
+use Rattle.instructions.specs.declared.Modification.{Modification}
+use Rattle.instructions.specs.declared.Modification.the-variants.{None, Minus, Plus, MinusReversed, MinusIndex, PlusIndex, PlusReversed}
+use Rattle.instructions.specs.declared.Address.{Address}
+use Rattle.instructions.specs.declared.NextArp.{NextArp}
+use Rattle.instructions.specs.declared.NextArp.the-variants.{Same, To}
+use Rattle.encoder.specs.Encode.{modificationBits, nextBits, isIndirect, addressBits}
+use Rattle.encoder.specs.Bits.{fieldAfter, field-after}
+
+pub modification-lt : (m : Modification) → modificationBits m < 8
+unfolding modificationBits
+modification-lt None = ltb→lt 0 8 tt
+modification-lt Minus = ltb→lt 1 8 tt
+modification-lt Plus = ltb→lt 2 8 tt
+modification-lt MinusReversed = ltb→lt 4 8 tt
+modification-lt MinusIndex = ltb→lt 5 8 tt
+modification-lt PlusIndex = ltb→lt 6 8 tt
+modification-lt PlusReversed = ltb→lt 7 8 tt
+
+pub next-lt : (n : NextArp) → nextBits n < 16
+unfolding nextBits
+next-lt Same = omega arith
+next-lt (To r) = omega arith
+
+-- the bits n, a field of j bits, and one of k
+pub two-fields : (v j u k n : ℕ) → fieldAfter u (fieldAfter v n j) k ≡ (n * 2 ^ j + v % 2 ^ j) * 2 ^ k + u % 2 ^ k
+two-fields v j u k n = field-after u (fieldAfter v n j) k ∙ ap (λ (m : ℕ). m * 2 ^ k + u % 2 ^ k) (field-after v n j)
+
+-- the bits n, and fields of i, of j and of k bits
+pub three-fields : (x i v j u k n : ℕ)
+    → fieldAfter u (fieldAfter v (fieldAfter x n i) j) k ≡ ((n * 2 ^ i + x % 2 ^ i) * 2 ^ j + v % 2 ^ j) * 2 ^ k + u % 2 ^ k
+three-fields x i v j u k n =
+    two-fields v j u k (fieldAfter x n i) ∙ ap (λ (m : ℕ). (m * 2 ^ j + v % 2 ^ j) * 2 ^ k + u % 2 ^ k) (field-after x n i)
+
+-- a result by the case that a value is in
+pub by-case : {A : Type 0} (f : A → ℕ) {x y : A} {r : ℕ} → x ≡ y → r ≡ f y → r ≡ f x
+by-case f e p = p ∙ ap f (sym e)
+
+-- An upper byte and an operand; before them four bits and a field of four, or five and a field of three.
+pub of-address : (u : ℕ) (a : Address) {r : ℕ} → r ≡ (u * 2 + isIndirect a % 2) * 128 + addressBits a % 128
+    → r ≡ fieldAfter (addressBits a) (fieldAfter (isIndirect a) u 1) 7
+of-address u a e = e ∙ sym (two-fields (isIndirect a) 1 (addressBits a) 7 u)
+
+pub of-shifted : (u s : ℕ) (a : Address) {r : ℕ} → r ≡ ((u * 16 + s % 16) * 2 + isIndirect a % 2) * 128 + addressBits a % 128
+    → r ≡ fieldAfter (addressBits a) (fieldAfter (isIndirect a) (fieldAfter s u 4) 1) 7
+of-shifted u s a e = e ∙ sym (three-fields s 4 (isIndirect a) 1 (addressBits a) 7 u)
+
+pub of-selected : (u s : ℕ) (a : Address) {r : ℕ} → r ≡ ((u * 8 + s % 8) * 2 + isIndirect a % 2) * 128 + addressBits a % 128
+    → r ≡ fieldAfter (addressBits a) (fieldAfter (isIndirect a) (fieldAfter s u 3) 1) 7
+of-selected u s a e = e ∙ sym (three-fields s 3 (isIndirect a) 1 (addressBits a) 7 u)

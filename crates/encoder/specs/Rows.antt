@@ -1,0 +1,61 @@
+-- What the base's pages read from a word are the fields of the instruction that they make of it.
+use mathlib.Core.Path.{_≡_, refl, _∙_, ap}
+use mathlib.Core.Bool.{Bool}
+use mathlib.Core.List.{List, [], _∷_, map}
+use Prim.Native.Nat.{ℕ, _/_, _%_}
+use Prim.Native.String.{String}
+use lib.Text.{eqt}
+use Rattle.instructions.specs.Encoding.{Row, pick, under, means, addressOf, indirectOf}
+use Rattle.instructions.specs.Pages.{basePages}
+use Rattle.instructions.specs.declared.Decoded.{Decoded}
+use Rattle.instructions.specs.declared.Decoded.the-variants.{Base, Published, Nothing}
+use Rattle.encoder.specs.Encode.{text, isIndirect, addressBits, indirectBits, fieldsOf, accumulatorFields, multiplierFields, auxiliaryFields, branchFields, transferFields, modeFields}
+use Rattle.encoder.specs.Spelled.{letters, read}
+
+-- the page and the fields of what a word is
+unfoldable pub fields : Decoded → String × List (String × ℕ)
+fields (Base i) = fieldsOf i
+fields Published = ("", [])
+fields Nothing = ("", [])
+
+abbrev pub isOperand : Row → Bool
+isOperand r = eqt (r .lower) "IDDD DDDD"
+
+abbrev pub isBranch : Row → Bool
+isBranch r = eqt (r .lower) "1DDD DDDD"
+
+abbrev pub unread : String × List (String × ℕ)
+unread = ("", [])
+
+pub plain-rows : (w : ℕ)
+    → map (λ r. pick (isOperand r) unread (pick (isBranch r) unread (fields (means r w)))) basePages
+    ≡ map (λ r. pick (isOperand r) unread (pick (isBranch r) unread (read r w))) basePages
+unfolding fields fieldsOf accumulatorFields multiplierFields auxiliaryFields branchFields transferFields modeFields letters
+plain-rows w = refl
+
+-- the same, with other numbers for I and D
+abbrev pub numberedWith : ℕ → ℕ → (String → ℕ) → List String → List (String × ℕ)
+numberedWith i d f [] = []
+numberedWith i d f (c ∷ cs) = (c, pick (eqt c "I") i (pick (eqt c "D") d (f c))) ∷ numberedWith i d f cs
+
+abbrev pub readWith : (Row → Bool) → ℕ → ℕ → ℕ → List Row → List (String × List (String × ℕ))
+readWith which i d w [] = []
+readWith which i d w (r ∷ rs) =
+    pick (which r) (r .name, numberedWith i d (under (text r) 16 w) (letters (text r) 16)) unread ∷ readWith which i d w rs
+
+pub operand-rows : (w : ℕ) → isIndirect (addressOf (w % 256)) ≡ w / 128 % 2 → addressBits (addressOf (w % 256)) ≡ w / 1 % 128
+    → map (λ r. pick (isOperand r) (fields (means r w)) unread) basePages ≡ map (λ r. pick (isOperand r) (read r w) unread) basePages
+unfolding fields fieldsOf accumulatorFields multiplierFields auxiliaryFields branchFields transferFields modeFields letters
+operand-rows w a b =
+    ap (λ (i : ℕ). readWith isOperand i (addressBits (addressOf (w % 256))) w basePages) a
+    ∙ ap (λ (d : ℕ). readWith isOperand (w / 128 % 2) d w basePages) b
+
+pub branch-rows : (w : ℕ) → indirectBits (indirectOf (w % 256)) ≡ w / 1 % 128
+    → map (λ r. pick (isBranch r) (fields (means r w)) unread) basePages ≡ map (λ r. pick (isBranch r) (read r w) unread) basePages
+unfolding fields fieldsOf accumulatorFields multiplierFields auxiliaryFields branchFields transferFields modeFields letters
+branch-rows w a = ap (λ (d : ℕ). readWith isBranch 0 d w basePages) a
+
+pub same-rows : (w v : ℕ) → v / 256 ≡ w / 256 → addressOf (v % 256) ≡ addressOf (w % 256) → indirectOf (v % 256) ≡ indirectOf (w % 256)
+    → map (λ r. pick (isOperand r) (means r v) (pick (isBranch r) (means r v) Nothing)) basePages
+    ≡ map (λ r. pick (isOperand r) (means r w) (pick (isBranch r) (means r w) Nothing)) basePages
+same-rows w v a b c = rw (a, b, c)
