@@ -26,8 +26,8 @@ use Rattle.board.specs.Slices.{memoriesFit, portFits, portSpent, slicesFit}
 use Rattle.board.specs.Windows.{windowOf, programWord}
 use Rattle.plans.specs.Rows.{firstGiven}
 use Rattle.plans.specs.Pass.{accesses, wrongPort, sends, addressAbove, dataAbsent, tableAbsent, outputFull, readWord, wordsRead, effectOf, writeOf, passedMachine, passedWrite, performed, dataAfter, outputAfter}
-use Rattle.emulator.specs.Table.{decodedAt, secondAddress, secondWord, notRepeatable, secondAbsent, tableFor, refusalOf}
-use Rattle.emulator.specs.Step.{pagePlan, planOf, stored, stepOf}
+use Rattle.steps.specs.Table.{decodedAt, secondAddress, secondWord, notRepeatable, secondAbsent, tableFor, refusalOf}
+use Rattle.steps.specs.Step.{pagePlan, planOf, stored, stepOf}
 use Rattle.bench.specs.Cases.{cases, found, expected}
 
 pub bench : found cases ≡ expected cases

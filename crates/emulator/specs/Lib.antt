@@ -1,5 +1,1 @@
-pub mod World
-pub mod Table
-pub mod Step
-pub mod Stages
-pub mod StepLaws
+pub mod Outcomes

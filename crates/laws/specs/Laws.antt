@@ -16,9 +16,9 @@ use Rattle.answers.specs.Numbers.{numberOf, isDone}
 use Rattle.plans.specs.declared.Write.{Write}
 use Rattle.plans.specs.Rows.{Row, row}
 use Rattle.plans.specs.Pass.{effectOf, passedWrite, dataAfter, outputAfter}
-use Rattle.emulator.specs.World.{World, RunOutcome}
-use Rattle.emulator.specs.Table.{decodedAt, secondWord, tableFor, checksOf}
-use Rattle.emulator.specs.Step.{stepOf, runOf}
+use Rattle.steps.specs.World.{World, RunOutcome}
+use Rattle.steps.specs.Table.{decodedAt, secondWord, tableFor, checksOf}
+use Rattle.steps.specs.Step.{stepOf, runOf}
 
 -- ---- a refused step
 

@@ -55,9 +55,9 @@ use Rattle.rules.specs.declared.Words.{Words}
 use Rattle.rules.specs.Rules.{ruleOf}
 use Rattle.board.specs.Slices.{slicesFit}
 use Rattle.plans.specs.Pass.{addressAbove, dataAbsent, tableAbsent, outputFull, wordsRead, effectOf, passedMachine, passedWrite, performed, dataAfter, outputAfter}
-use Rattle.emulator.specs.World.{World}
-use Rattle.emulator.specs.Table.{decodedAt, secondAddress, secondWord, notRepeatable, secondAbsent, tableFor}
-use Rattle.emulator.specs.Step.{stored, stepOf}
+use Rattle.steps.specs.World.{World}
+use Rattle.steps.specs.Table.{decodedAt, secondAddress, secondWord, notRepeatable, secondAbsent, tableFor}
+use Rattle.steps.specs.Step.{stored, stepOf}
 use Rattle.laws.specs.Laws.{rowsOf, NoneHolds, recounted, workOf, effectAt, writeAt, PassWorks, EveryPassWorks}
 use Rattle.laws.specs.Steps.{_and_, row-not, step-world, row-given}
 

@@ -40,7 +40,7 @@ use Rattle.board.specs.Regions.{inRom, inProgramB0}
 use Rattle.board.specs.Slices.{portSpent}
 use Rattle.board.specs.Windows.{windowOf, programWord}
 use Rattle.plans.specs.Pass.{readWord, wordsRead}
-use Rattle.emulator.specs.Table.{secondAddress, secondWord}
+use Rattle.steps.specs.Table.{secondAddress, secondWord}
 use Rattle.ranges.specs.Ranges.{WordsFit}
 use Rattle.ranges.specs.Fields.{NextFits, AddressFits, accumulatorFits, multiplierFits, auxiliaryFits, branchesFits, transfersFits, modesFits, FieldsFit}
 use Rattle.ranges.specs.Cells.{Fits, word-at, words-take, words-drop, set-arp, set-arb, set-register, cell-fits, register-fits}

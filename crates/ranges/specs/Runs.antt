@@ -17,9 +17,9 @@ use Rattle.instructions.specs.declared.Decoded.{Decoded}
 use Rattle.board.specs.Slices.{memoriesFit, portFits, slicesFit}
 use Rattle.board.specs.SliceLaws.{slices-fit}
 use Rattle.plans.specs.Rows.{Row, row, firstGiven}
-use Rattle.emulator.specs.World.{World, RunOutcome}
-use Rattle.emulator.specs.Table.{decodedAt, tableFor, checksOf}
-use Rattle.emulator.specs.Step.{stepOf, runOf}
+use Rattle.steps.specs.World.{World, RunOutcome}
+use Rattle.steps.specs.Table.{decodedAt, tableFor, checksOf}
+use Rattle.steps.specs.Step.{stepOf, runOf}
 use Rattle.laws.specs.Laws.{AllDone}
 use Rattle.laws.specs.Steps.{_and_, step-answer}
 use Rattle.laws.specs.Runs.{run-none, run-refused, run-done, by-first}

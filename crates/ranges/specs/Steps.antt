@@ -30,9 +30,9 @@ use Rattle.plans.specs.declared.Write.{Write}
 use Rattle.plans.specs.declared.Write.the-variants as Write
 use Rattle.plans.specs.Rows.{Row}
 use Rattle.plans.specs.Pass.{sends, outputFull, wordsRead, effectOf, writeOf, passedMachine, passedWrite, performed, dataAfter, outputAfter}
-use Rattle.emulator.specs.World.{World}
-use Rattle.emulator.specs.Table.{decodedAt, secondWord, tableFor}
-use Rattle.emulator.specs.Step.{stored, stepOf}
+use Rattle.steps.specs.World.{World}
+use Rattle.steps.specs.Table.{decodedAt, secondWord, tableFor}
+use Rattle.steps.specs.Step.{stored, stepOf}
 use Rattle.laws.specs.Laws.{NoneHolds}
 use Rattle.laws.specs.Steps.{_and_, row-not, step-world, refused-unchanged, row-given}
 use Rattle.laws.specs.Runs.{by-first}

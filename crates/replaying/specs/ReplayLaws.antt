@@ -18,8 +18,9 @@ use Rattle.runfile.specs.Files.{Contents, wordAt, numbersOf, rulesKept, readAns
 use Rattle.runfile.specs.SetUp.{lent, lentFit, setUpAnswer, loaded, setUp}
 use Rattle.runfile.specs.FileLaws.{accepted, head-read, rules-facts}
 use Rattle.emulator.specs.declared.Ran.{Ran}
-use Rattle.emulator.specs.World.{World, RunOutcome, ran}
-use Rattle.emulator.specs.Step.{runOf}
+use Rattle.steps.specs.World.{World, RunOutcome}
+use Rattle.emulator.specs.Outcomes.{ran}
+use Rattle.steps.specs.Step.{runOf}
 use Rattle.line.specs.Lines.{lineOf, refusedLine, lineIn, lengthIn}
 use Rattle.replaying.specs.Replay.{startOf, replayRun, runLine, replayLine}
 use Rattle.replaying.specs.Facts.{FreshSlices}

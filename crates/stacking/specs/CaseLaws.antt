@@ -24,10 +24,10 @@ use Rattle.board.specs.Slices.{memoriesFit, portFits, portSpent, slicesFit}
 use Rattle.board.specs.Windows.{windowOf, programWord}
 use Rattle.plans.specs.Rows.{firstGiven}
 use Rattle.plans.specs.Pass.{accesses, wrongPort, sends, addressAbove, dataAbsent, tableAbsent, outputFull, readWord, wordsRead, effectOf, writeOf, passedMachine, passedWrite, performed, dataAfter, outputAfter}
-use Rattle.emulator.specs.Table.{checksOf, decodedAt, secondAddress, secondWord, notRepeatable, secondAbsent, tableFor, refusalOf}
-use Rattle.emulator.specs.Step.{pagePlan, planOf, stored, stepOf, runOf}
+use Rattle.steps.specs.Table.{checksOf, decodedAt, secondAddress, secondWord, notRepeatable, secondAbsent, tableFor, refusalOf}
+use Rattle.steps.specs.Step.{pagePlan, planOf, stored, stepOf, runOf}
 use Rattle.answers.specs.Numbers.{numberOf}
-use Rattle.emulator.specs.World.{RunOutcome}
+use Rattle.steps.specs.World.{RunOutcome}
 use Rattle.stacking.specs.Cases.{romWith, worldWith, runWith}
 
 -- answer, steps, ACC and OV of a run

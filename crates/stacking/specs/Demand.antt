@@ -25,9 +25,9 @@ use Rattle.multiplier.specs.Rule.{multiplierRule}
 use Rattle.rules.specs.Rules.{ruleOf}
 use Rattle.board.specs.Windows.{programWord}
 use Rattle.plans.specs.Pass.{effectOf, passedMachine, performed}
-use Rattle.emulator.specs.World.{World}
-use Rattle.emulator.specs.Table.{decodedAt, secondWord}
-use Rattle.emulator.specs.Step.{stored, stepOf, runOf}
+use Rattle.steps.specs.World.{World}
+use Rattle.steps.specs.Table.{decodedAt, secondWord}
+use Rattle.steps.specs.Step.{stored, stepOf, runOf}
 use Rattle.frames.specs.Frames.{Pair, Accumulation, fromZero, productAdded, passed, stacked, exactSum, Near, Words, AllLeast}
 use Rattle.frames.specs.FrameLaws.{below-128, at-128}
 use Rattle.stacking.specs.Stacking.{pairsRead, wordAhead, Sized, Stacks, lastWorld, words, Holds}

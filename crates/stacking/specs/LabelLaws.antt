@@ -29,13 +29,13 @@ use Rattle.board.specs.Slices.{memoriesFit, portFits, portSpent, slicesFit}
 use Rattle.board.specs.Windows.{windowOf, programWord}
 use Rattle.plans.specs.Rows.{firstGiven}
 use Rattle.plans.specs.Pass.{accesses, wrongPort, sends, addressAbove, dataAbsent, tableAbsent, outputFull, readWord, wordsRead, effectOf, writeOf, passedMachine, passedWrite, performed, dataAfter, outputAfter}
-use Rattle.emulator.specs.Table.{checksOf, decodedAt, secondAddress, secondWord, notRepeatable, secondAbsent, tableFor, refusalOf}
-use Rattle.emulator.specs.Step.{pagePlan, planOf, stored, stepOf, runOf}
+use Rattle.steps.specs.Table.{checksOf, decodedAt, secondAddress, secondWord, notRepeatable, secondAbsent, tableFor, refusalOf}
+use Rattle.steps.specs.Step.{pagePlan, planOf, stored, stepOf, runOf}
 use Rattle.instructions.specs.declared.Instruction.the-variants as Family
 use Rattle.instructions.specs.declared.Address.the-variants.{Direct}
 use Rattle.instructions.specs.declared.Modes.the-variants.{Rptk}
 use Rattle.instructions.specs.declared.Multiplier.the-variants.{Mac}
-use Rattle.emulator.specs.World.{World}
+use Rattle.steps.specs.World.{World}
 use Rattle.stacking.specs.Stacking.{wordAhead, by-rptk, by-mac, Sized, Stacks, lastWorld}
 use Rattle.stacking.specs.Demand.{demand}
 use Rattle.stacking.specs.Cases.{romWith, worldWith, runWith}

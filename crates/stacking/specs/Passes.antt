@@ -33,9 +33,9 @@ use Rattle.board.specs.Windows.{windowOf, programWord}
 use Rattle.board.specs.WindowLaws.{rom-word, b0-word}
 use Rattle.plans.specs.declared.Write.the-variants as Write
 use Rattle.plans.specs.Pass.{readWord, wordsRead, effectOf, writeOf, passedMachine, passedWrite, performed, dataAfter, outputAfter}
-use Rattle.emulator.specs.World.{World}
-use Rattle.emulator.specs.Table.{decodedAt, secondWord}
-use Rattle.emulator.specs.Step.{stored, stepOf, runOf}
+use Rattle.steps.specs.World.{World}
+use Rattle.steps.specs.Table.{decodedAt, secondWord}
+use Rattle.steps.specs.Step.{stored, stepOf, runOf}
 use Rattle.frames.specs.Frames.{Pair, Accumulation, productAdded, accumulated, passed, Every, Words}
 use Rattle.stacking.specs.Stacking.{pairFor, pairAt, pairsRead, Repeats, by-rptk, by-rpt, Accumulates, by-mac, by-macd, Sized}
 use Rattle.stacking.specs.Passing.{step-does, RunsOn, runs-on, run-ended, Alike, operand-alike, accumulationOf, Follows, followed-follows, again, goes-past, apac-works, mac-works, move-keeps}

@@ -36,9 +36,9 @@ use Rattle.board.specs.Windows.{windowOf, programWord}
 use Rattle.board.specs.WindowLaws.{rom-word, b0-word}
 use Rattle.plans.specs.declared.Plan.{Plan}
 use Rattle.plans.specs.Pass.{performed, refused}
-use Rattle.emulator.specs.World.{World, Outcome, RunOutcome}
-use Rattle.emulator.specs.Table.{decodedAt, secondWord, refusalOf}
-use Rattle.emulator.specs.Step.{pagePlan, planOf, stored, stepOf, runOf}
+use Rattle.steps.specs.World.{World, Outcome, RunOutcome}
+use Rattle.steps.specs.Table.{decodedAt, secondWord, refusalOf}
+use Rattle.steps.specs.Step.{pagePlan, planOf, stored, stepOf, runOf}
 use Rattle.frames.specs.Frames.{Pair, Accumulation, productAdded, accumulated}
 
 -- ---- a step that is done does what its page says

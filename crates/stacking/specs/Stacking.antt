@@ -22,9 +22,9 @@ use Rattle.traits.specs.Pages.{traitsOf}
 use Rattle.addressing.specs.Addressing.{addressOf}
 use Rattle.board.specs.Windows.{programWord}
 use Rattle.plans.specs.Pass.{wordsRead}
-use Rattle.emulator.specs.World.{World, RunOutcome}
-use Rattle.emulator.specs.Table.{decodedAt, secondWord}
-use Rattle.emulator.specs.Step.{stepOf, runOf}
+use Rattle.steps.specs.World.{World, RunOutcome}
+use Rattle.steps.specs.Table.{decodedAt, secondWord}
+use Rattle.steps.specs.Step.{stepOf, runOf}
 use Rattle.frames.specs.Frames.{Pair, Near, exactSum, AllLeast}
 
 -- ---- the words that the passes read, taken from the run itself

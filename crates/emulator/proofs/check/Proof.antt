@@ -1,4 +1,4 @@
-use Rattle.emulator.specs.Table.{checksOf}
+use Rattle.steps.specs.Table.{checksOf}
 use Rattle.plans.specs.Rows.{firstGiven}
 use borrow.Author.Needs.{needs}
 use Rattle.emulator.proofs.check.Statement.{statement}

@@ -2,8 +2,8 @@ use mathlib.Core.Path.{sym, _∙_}
 use Prim.Native.Nat.{_-_}
 use borrow.Author.Needs.{needs}
 use borrow.Author.Tests.{not-true, not-false}
-use Rattle.emulator.specs.World.{stepped}
-use Rattle.emulator.specs.StepLaws.{Running, running-begins, running-goes, running-stops, running-ends}
+use Rattle.emulator.specs.Outcomes.{stepped}
+use Rattle.steps.specs.StepLaws.{Running, running-begins, running-goes, running-stops, running-ends}
 use Rattle.emulator.proofs.run.Statement.{statement}
 use Rattle.emulator.proofs.run.Tie as tie
 

@@ -1,5 +1,5 @@
-use Rattle.emulator.specs.Step.{stepOf, stored}
-use Rattle.emulator.specs.StepLaws.{step-fits}
+use Rattle.steps.specs.Step.{stepOf, stored}
+use Rattle.steps.specs.StepLaws.{step-fits}
 use borrow.Author.Needs.{needs}
 use Rattle.emulator.proofs.step.Statement.{statement}
 use Rattle.emulator.proofs.step.Tie as tie

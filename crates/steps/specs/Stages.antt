@@ -17,8 +17,8 @@ use Rattle.board.specs.Slices.{slicesFit}
 use Rattle.plans.specs.declared.Plan.{Plan}
 use Rattle.plans.specs.Rows.{Row, row, firstGiven}
 use Rattle.plans.specs.Pass.{performed, refused, wrongPort, addressAbove, dataAbsent, tableAbsent, outputFull, passRefusal, passPlan}
-use Rattle.emulator.specs.Table.{decodedAt, secondWord, notRepeatable, secondAbsent, tableFor, refusalOf}
-use Rattle.emulator.specs.Step.{pagePlan, planOf}
+use Rattle.steps.specs.Table.{decodedAt, secondWord, notRepeatable, secondAbsent, tableFor, refusalOf}
+use Rattle.steps.specs.Step.{pagePlan, planOf}
 
 unfoldable pub instructionPlan : Instruction → List ℕ → List ℕ → List ℕ → ℕ → Machine → Plan
 instructionPlan i rom «data» input outputLength m =

@@ -3,8 +3,6 @@ use mathlib.Core.List.{List}
 use Prim.Native.Nat.{ℕ}
 use Rattle.machine.specs.declared.Machine.{Machine}
 use Rattle.answers.specs.declared.Answer.{Answer}
-use Rattle.emulator.specs.declared.Stepped.{Stepped}
-use Rattle.emulator.specs.declared.Ran.{Ran}
 
 -- the cells, the data words and the output words; the ROM and the input words are given beside it
 pub record World : Type 0 where
@@ -22,10 +20,3 @@ pub record RunOutcome : Type 0 where
   pub world : World
   pub steps : ℕ
   pub answer : Answer
-
--- what the functions give: their result, and the two slices as they are at exit
-abbrev pub stepped : Stepped → List ℕ → List ℕ → Outcome
-stepped s «data» output = record { world = record { m = s .m; «data» = «data»; output = output }; answer = s .answer }
-
-abbrev pub ran : Ran → List ℕ → List ℕ → RunOutcome
-ran r «data» output = record { world = record { m = r .m; «data» = «data»; output = output }; steps = r .steps; answer = r .answer }

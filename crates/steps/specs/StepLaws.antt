@@ -22,10 +22,10 @@ use Rattle.plans.specs.declared.Plan.{Plan}
 use Rattle.plans.specs.Rows.{Row, row, firstGiven}
 use Rattle.plans.specs.Pass.{dataAbsent, refused, performed, passRefusal, passPlan}
 use Rattle.plans.specs.StoreLaws.{WriteFits, write-fits}
-use Rattle.emulator.specs.World.{World, Outcome, RunOutcome}
-use Rattle.emulator.specs.Table.{decodedAt, secondWord, notRepeatable, secondAbsent, checksOf}
-use Rattle.emulator.specs.Step.{planOf, stepOf, runOf, oneMore, stopped}
-use Rattle.emulator.specs.Stages.{instructionPlan, decodedPlan, fetchPlan, stages}
+use Rattle.steps.specs.World.{World, Outcome, RunOutcome}
+use Rattle.steps.specs.Table.{decodedAt, secondWord, notRepeatable, secondAbsent, checksOf}
+use Rattle.steps.specs.Step.{planOf, stepOf, runOf, oneMore, stopped}
+use Rattle.steps.specs.Stages.{instructionPlan, decodedPlan, fetchPlan, stages}
 
 -- where a table gives Done its first row does not hold, and the rest gives Done
 pub first-not : (given : Bool) (a : Answer) (rows : List Row) → isDone a ≡ false → isDone (firstGiven (row a given ∷ rows)) ≡ true

@@ -1,9 +1,9 @@
 use borrow.Author.Tests.{eq-eqb, ne-eqb}
-use Rattle.emulator.specs.Stages.{instructionPlan}
-use Rattle.emulator.specs.Table.{notRepeatable, secondAbsent, secondWord, secondAddress}
+use Rattle.steps.specs.Stages.{instructionPlan}
+use Rattle.steps.specs.Table.{notRepeatable, secondAbsent, secondWord, secondAddress}
 use borrow.Author.Needs.{needs}
-use Rattle.emulator.proofs.plan_instruction.Statement.{statement}
-use Rattle.emulator.proofs.plan_instruction.Tie as tie
+use Rattle.fetching.proofs.plan_instruction.Statement.{statement}
+use Rattle.fetching.proofs.plan_instruction.Tie as tie
 
 traits-of-requires : tie.Need-traits-of-requires
 traits-of-requires c κs = search needs

@@ -11,8 +11,8 @@ use Rattle.instructions.specs.declared.Decoded.{Decoded}
 use Rattle.instructions.specs.declared.Decoded.the-variants.{Base, Published, Nothing}
 use Rattle.plans.specs.declared.Plan.{Plan}
 use Rattle.plans.specs.Pass.{performed, refused, dataAfter, outputAfter}
-use Rattle.emulator.specs.World.{World, Outcome, RunOutcome}
-use Rattle.emulator.specs.Table.{decodedAt, secondWord, refusalOf, checksOf}
+use Rattle.steps.specs.World.{World, Outcome, RunOutcome}
+use Rattle.steps.specs.Table.{decodedAt, secondWord, refusalOf, checksOf}
 
 -- What the step does where nothing refuses it: the rule of the word's page. (A word that is no instruction of the base is always refused.)
 unfoldable pub pagePlan : Decoded → List ℕ → List ℕ → List ℕ → Machine → Plan

@@ -1,7 +1,7 @@
-use Rattle.emulator.specs.Stages.{decodedPlan}
+use Rattle.steps.specs.Stages.{decodedPlan}
 use borrow.Author.Needs.{needs}
-use Rattle.emulator.proofs.plan_decoded.Statement.{statement}
-use Rattle.emulator.proofs.plan_decoded.Tie as tie
+use Rattle.fetching.proofs.plan_decoded.Statement.{statement}
+use Rattle.fetching.proofs.plan_decoded.Tie as tie
 
 enum-known-d : tie.Need-enum-known-d
 enum-known-d c = search needs

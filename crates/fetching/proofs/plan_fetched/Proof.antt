@@ -1,8 +1,8 @@
-use Rattle.emulator.specs.Stages.{fetchPlan}
-use Rattle.emulator.specs.Table.{decodedAt}
+use Rattle.steps.specs.Stages.{fetchPlan}
+use Rattle.steps.specs.Table.{decodedAt}
 use borrow.Author.Needs.{needs}
-use Rattle.emulator.proofs.plan_fetched.Statement.{statement}
-use Rattle.emulator.proofs.plan_fetched.Tie as tie
+use Rattle.fetching.proofs.plan_fetched.Statement.{statement}
+use Rattle.fetching.proofs.plan_fetched.Tie as tie
 
 program-present-requires : tie.Need-program-present-requires
 program-present-requires c κs = search needs
