@@ -1,7 +1,6 @@
 // Step and run.
 use answers::Answer;
 use answers::is_done;
-use board::slices;
 use fetching::plan_fetched;
 use machine::Machine;
 use plans::Write;

@@ -1,6 +1,5 @@
 // From a machine that has passed checks 1 and 2 to the plan of its step: answers 5, 3, 4, 7 and 5 for the second word, then the pass.
 use answers::Answer;
-use board::regions;
 use decoder::decode;
 use instructions::Decoded;
 use instructions::Instruction;
@@ -10,7 +9,6 @@ use plans::Write;
 use plans::plan_pass;
 use plans::program_word;
 use traits::traits_of;
-use words::registers;
 ghost use mathlib.Core.Path.{_≡_};
 ghost use Rattle.plans.specs.Pass.{refused};
 ghost use Rattle.steps.specs.Stages.{instructionPlan, decodedPlan, fetchPlan};

@@ -12,8 +12,8 @@ use crate::fields::put_cells;
 use crate::fields::put_words;
 use answers::Answer;
 use answers::number;
-use board::windows::words_sent;
 use emulator::Ran;
+use windows::words_sent;
 
 // How many bytes a line has: beside the decimal fields and the words, 17 for PC, ACC, the spaces and the newline.
 fn line_length(answer: u32, steps: u32, ov: u32, words: usize) -> usize

@@ -23,9 +23,9 @@ use Rattle.addressing.specs.Addressing.{addressed, addressOf}
 use Rattle.multiplier.specs.Pages.{tableAddress}
 use Rattle.rules.specs.declared.Words.{Words}
 use Rattle.rules.specs.Rules.{ruleOf}
-use Rattle.board.specs.Regions.{dataPresent, programPresent, moveAllowed}
-use Rattle.board.specs.Slices.{portSpent}
-use Rattle.board.specs.Windows.{programWord}
+use Rattle.regions.specs.Regions.{dataPresent, programPresent, moveAllowed}
+use Rattle.slices.specs.Slices.{portSpent}
+use Rattle.windows.specs.Windows.{programWord}
 use Rattle.plans.specs.Rows.{Row, row, firstGiven}
 use Rattle.plans.specs.declared.Write.{Write}
 use Rattle.plans.specs.declared.Write.the-variants.{Nothing, Data, Sent}

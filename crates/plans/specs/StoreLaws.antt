@@ -37,8 +37,8 @@ use Rattle.traits.specs.Pages.{accumulatorTraits, multiplierTraits, auxiliaryTr
 use Rattle.rules.specs.declared.Words.{Words}
 use Rattle.rules.specs.Rules.{ruleOf}
 use Rattle.addressing.specs.Addressing.{addressOf}
-use Rattle.board.specs.Regions.{dataPresent, moveAllowed}
-use Rattle.board.specs.RegionLaws.{present-below, moves}
+use Rattle.regions.specs.Regions.{dataPresent, moveAllowed}
+use Rattle.regions.specs.RegionLaws.{present-below, moves}
 use Rattle.plans.specs.declared.Write.{Write}
 use Rattle.plans.specs.declared.Write.the-variants as Write
 use Rattle.plans.specs.Pass.{accesses, dataAbsent, effectOf, writeOf, passedWrite}

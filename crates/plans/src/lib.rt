@@ -3,9 +3,6 @@ use addressing::address_of;
 use addressing::after_operand;
 use answers::Answer;
 use answers::is_done;
-use board::regions;
-use board::slices;
-use board::windows;
 use instructions::Instruction;
 use machine::Machine;
 use multiplier::table_address;
@@ -19,8 +16,8 @@ use traits::Traits;
 use traits::traits_of;
 ghost use mathlib.Core.Path.{_≡_};
 ghost use lib.ListN.{getD};
-ghost use Rattle.board.specs.Regions.{dataPresent, moveAllowed};
-ghost use Rattle.board.specs.Windows.{programWord};
+ghost use Rattle.regions.specs.Regions.{dataPresent, moveAllowed};
+ghost use Rattle.windows.specs.Windows.{programWord};
 ghost use Rattle.plans.specs.Pass.{accesses, wrongPort, sends, passRefusal, readWord, wordsRead, writeOf, refused, performed, passPlan};
 
 // The one store of a step. An address is that of document 01, before it is known to be on the board.

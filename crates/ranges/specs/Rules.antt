@@ -3,8 +3,8 @@ use mathlib.Core.Path.{_≡_, refl}
 use mathlib.Core.Bool.{Bool, true, false}
 use Prim.Native.Nat.{ℕ, _%_, _^_, _<_}
 use native.Mathlib.Omega.{arith}
-use Rattle.words.specs.declared.sums.Sum.{Sum}
-use Rattle.words.specs.declared.shifts.Shifted.{Shifted}
+use Rattle.sums.specs.declared.Sum.{Sum}
+use Rattle.shifts.specs.declared.Shifted.{Shifted}
 use Rattle.machine.specs.declared.Machine.{Machine}
 use Rattle.instructions.specs.declared.Instruction.{Instruction}
 use Rattle.instructions.specs.declared.Instruction.the-variants as Family

@@ -23,9 +23,9 @@ use Rattle.passes.specs.Passes.{destination, followed}
 use Rattle.traits.specs.declared.Traits.{Traits}
 use Rattle.traits.specs.Pages.{traitsOf}
 use Rattle.addressing.specs.Addressing.{addressOf}
-use Rattle.board.specs.Regions.{moveAllowed}
-use Rattle.board.specs.Slices.{memoriesFit, portFits, portSpent, slicesFit}
-use Rattle.board.specs.SliceLaws.{slices-fit}
+use Rattle.regions.specs.Regions.{moveAllowed}
+use Rattle.slices.specs.Slices.{memoriesFit, portFits, portSpent, slicesFit}
+use Rattle.slices.specs.SliceLaws.{slices-fit}
 use Rattle.plans.specs.declared.Write.{Write}
 use Rattle.plans.specs.declared.Write.the-variants as Write
 use Rattle.plans.specs.Rows.{Row}

@@ -12,10 +12,10 @@ use Rattle.machine.specs.declared.Machine.{Machine}
 use Rattle.machine.specs.Reset.{resetMachine}
 use Rattle.answers.specs.declared.Answer.the-variants.{Done, FileShort, FileRules, FileVersion}
 use Rattle.answers.specs.Numbers.{isDone}
-use Rattle.board.specs.Slices.{memoriesFit}
+use Rattle.slices.specs.Slices.{memoriesFit}
 use Rattle.runfile.specs.declared.reading.Head.{Head}
 use Rattle.runfile.specs.Files.{Contents, wordAt, numbersOf, rulesKept, readAnswer, readContents, headOf}
-use Rattle.runfile.specs.SetUp.{lent, lentFit, setUpAnswer, loaded, setUp}
+use Rattle.setting_up.specs.SetUp.{lent, lentFit, setUpAnswer, loaded, setUp}
 use Rattle.runfile.specs.FileLaws.{accepted, head-read, rules-facts}
 use Rattle.emulator.specs.declared.Ran.{Ran}
 use Rattle.steps.specs.World.{World, RunOutcome}

@@ -13,7 +13,7 @@ use line::lines::run_line;
 use machine::Machine;
 use runfile::reading::head_of;
 use runfile::reading::read_answer;
-use runfile::setting_up::set_up;
+use setting_up::set_up;
 
 // An accepted file, set up in fresh slices and run from reset: its line.
 fn replay_in(

@@ -6,8 +6,8 @@ use Prim.Native.Nat.{ℕ, zero, suc, _+_, _-_, _%_, _^_, _≤_, _<_}
 use native.Mathlib.Omega.{arith}
 use native.Mathlib.Numerals.{unary-clauses}
 use lib.ListN.{length, getD, set}
-use Rattle.words.specs.Registers.{wrappedSum}
-use Rattle.words.specs.Products.{productWord}
+use Rattle.registers.specs.Registers.{wrappedSum}
+use Rattle.products.specs.Products.{productWord}
 use Rattle.machine.specs.declared.Machine.{Machine}
 use Rattle.answers.specs.Numbers.{isDone}
 use Rattle.instructions.specs.declared.Instruction.{Instruction}
@@ -28,9 +28,9 @@ use Rattle.modes.specs.Rule.{modesRule}
 use Rattle.multiplier.specs.Pages.{APAC, MAC, MACD, tableAddress}
 use Rattle.multiplier.specs.Rule.{multiplierRule}
 use Rattle.rules.specs.Rules.{ruleOf}
-use Rattle.board.specs.Regions.{inRom, inProgramB0, moveAllowed}
-use Rattle.board.specs.Windows.{windowOf, programWord}
-use Rattle.board.specs.WindowLaws.{rom-word, b0-word}
+use Rattle.regions.specs.Regions.{inRom, inProgramB0, moveAllowed}
+use Rattle.windows.specs.Windows.{windowOf, programWord}
+use Rattle.windows.specs.WindowLaws.{rom-word, b0-word}
 use Rattle.plans.specs.declared.Write.the-variants as Write
 use Rattle.plans.specs.Pass.{readWord, wordsRead, effectOf, writeOf, passedMachine, passedWrite, performed, dataAfter, outputAfter}
 use Rattle.steps.specs.World.{World}

@@ -12,8 +12,8 @@ use Rattle.instructions.specs.declared.Instruction.{Instruction}
 use Rattle.instructions.specs.declared.Decoded.{Decoded}
 use Rattle.instructions.specs.declared.Decoded.the-variants.{Base, Published, Nothing}
 use Rattle.traits.specs.Pages.{traitsOf}
-use Rattle.board.specs.Regions.{programPresent}
-use Rattle.board.specs.Slices.{slicesFit}
+use Rattle.regions.specs.Regions.{programPresent}
+use Rattle.slices.specs.Slices.{slicesFit}
 use Rattle.plans.specs.declared.Plan.{Plan}
 use Rattle.plans.specs.Rows.{Row, row, firstGiven}
 use Rattle.plans.specs.Pass.{performed, refused, wrongPort, addressAbove, dataAbsent, tableAbsent, outputFull, passRefusal, passPlan}

@@ -3,7 +3,7 @@ use mathlib.Core.Bool.{Bool, true, false, not, cond, _&&_}
 use mathlib.Core.List.{List, [], _∷_}
 use Prim.Native.Nat.{ℕ}
 use lib.Dec.{ltb, eqb}
-use Rattle.words.specs.Registers.{wrappedSum}
+use Rattle.registers.specs.Registers.{wrappedSum}
 use Rattle.machine.specs.declared.Machine.{Machine}
 use Rattle.machine.specs.Range.{inRange}
 use Rattle.answers.specs.declared.Answer.{Answer}
@@ -13,9 +13,9 @@ use Rattle.instructions.specs.declared.Decoded.{Decoded}
 use Rattle.instructions.specs.declared.Decoded.the-variants.{Base, Published, Nothing}
 use Rattle.instructions.specs.Decode.{decodeOf}
 use Rattle.traits.specs.Pages.{traitsOf}
-use Rattle.board.specs.Regions.{programPresent}
-use Rattle.board.specs.Slices.{slicesFit}
-use Rattle.board.specs.Windows.{programWord}
+use Rattle.regions.specs.Regions.{programPresent}
+use Rattle.slices.specs.Slices.{slicesFit}
+use Rattle.windows.specs.Windows.{programWord}
 use Rattle.plans.specs.Rows.{Row, row, firstGiven}
 use Rattle.plans.specs.Pass.{wrongPort, addressAbove, dataAbsent, tableAbsent, outputFull}
 

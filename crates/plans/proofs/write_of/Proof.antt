@@ -1,7 +1,7 @@
 use mathlib.Core.Path.{sym, _∙_}
 use native.Mathlib.Omega.{arith}
 use Rattle.plans.specs.Pass.{writeOf}
-use Rattle.board.specs.RegionLaws.{moves}
+use Rattle.regions.specs.RegionLaws.{moves}
 use borrow.Author.Needs.{needs}
 use Rattle.plans.proofs.write_of.Statement.{statement}
 use Rattle.plans.proofs.write_of.Tie as tie

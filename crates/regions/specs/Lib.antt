@@ -1,0 +1,6 @@
+-- definitions
+pub mod Regions
+-- words of the laws
+pub mod RegionFacts
+-- laws
+pub mod RegionLaws
