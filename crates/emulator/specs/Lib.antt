@@ -1,1 +1,4 @@
+-- definitions
 pub mod Outcomes
+-- proofs
+pub mod RunLaws
