@@ -10,7 +10,7 @@ use Rattle.machine.specs.Range.{inRange}
 use Rattle.answers.specs.declared.Answer.{Answer}
 use Rattle.answers.specs.declared.Answer.the-variants.{Done, CellOutOfRange, SlicesUnfit}
 use Rattle.answers.specs.Numbers.{isDone}
-use Rattle.board.specs.Slices.{slicesFit}
+use Rattle.slices.specs.Slices.{slicesFit}
 use Rattle.plans.specs.declared.Plan.{Plan}
 use Rattle.plans.specs.Rows.{row, firstGiven}
 use Rattle.plans.specs.Pass.{refused, dataAfter, outputAfter}
