@@ -5,7 +5,7 @@ use instructions::Decoded;
 use instructions::Instruction;
 use machine::Machine;
 use plans::Plan;
-use plans::Write;
+use stores::Write;
 use plans::plan_pass;
 use plans::program_word;
 use traits::traits_of;

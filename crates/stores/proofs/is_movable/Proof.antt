@@ -1,9 +1,9 @@
 use mathlib.Core.Path.{sym}
 use native.Mathlib.Omega.{arith}
-use Rattle.plans.specs.PassLaws.{unmoved-above}
+use Rattle.regions.specs.AbsentLaws.{unmoved-above}
 use borrow.Author.Needs.{needs}
-use Rattle.plans.proofs.is_movable.Statement.{statement}
-use Rattle.plans.proofs.is_movable.Tie as tie
+use Rattle.stores.proofs.is_movable.Statement.{statement}
+use Rattle.stores.proofs.is_movable.Tie as tie
 
 cast-move-allowed : tie.Need-cast-move-allowed
 cast-move-allowed c = search needs

@@ -1,7 +1,7 @@
-use Rattle.plans.specs.Pass.{wrongPort}
+use Rattle.refusals.specs.Refusals.{wrongPort}
 use borrow.Author.Needs.{needs}
-use Rattle.plans.proofs.is_wrong_port.Statement.{statement}
-use Rattle.plans.proofs.is_wrong_port.Tie as tie
+use Rattle.refusals.proofs.is_wrong_port.Statement.{statement}
+use Rattle.refusals.proofs.is_wrong_port.Tie as tie
 
 enum-told : tie.Need-enum-told
 enum-told c = search needs

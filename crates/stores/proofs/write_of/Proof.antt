@@ -1,10 +1,10 @@
 use mathlib.Core.Path.{sym, _∙_}
 use native.Mathlib.Omega.{arith}
-use Rattle.plans.specs.Pass.{writeOf}
+use Rattle.stores.specs.Stores.{writeOf}
 use Rattle.regions.specs.RegionLaws.{moves}
 use borrow.Author.Needs.{needs}
-use Rattle.plans.proofs.write_of.Statement.{statement}
-use Rattle.plans.proofs.write_of.Tie as tie
+use Rattle.stores.proofs.write_of.Statement.{statement}
+use Rattle.stores.proofs.write_of.Tie as tie
 
 enum-told : tie.Need-enum-told
 enum-told c = search needs

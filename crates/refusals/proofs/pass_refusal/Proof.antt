@@ -1,8 +1,8 @@
-use Rattle.plans.specs.Rows.{firstGiven}
-use Rattle.plans.specs.Pass.{passRefusal, addressAbove, dataAbsent, tableAbsent, outputFull}
+use Rattle.refusals.specs.Rows.{firstGiven}
+use Rattle.refusals.specs.Refusals.{passRefusal, addressAbove, dataAbsent, tableAbsent, outputFull}
 use borrow.Author.Needs.{needs}
-use Rattle.plans.proofs.pass_refusal.Statement.{statement}
-use Rattle.plans.proofs.pass_refusal.Tie as tie
+use Rattle.refusals.proofs.pass_refusal.Statement.{statement}
+use Rattle.refusals.proofs.pass_refusal.Tie as tie
 
 is-accessed-requires : tie.Need-is-accessed-requires
 is-accessed-requires c κs = search needs

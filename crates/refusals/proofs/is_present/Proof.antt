@@ -1,9 +1,9 @@
 use mathlib.Core.Path.{sym}
 use native.Mathlib.Omega.{arith}
-use Rattle.plans.specs.PassLaws.{absent-above}
+use Rattle.regions.specs.AbsentLaws.{absent-above}
 use borrow.Author.Needs.{needs}
-use Rattle.plans.proofs.is_present.Statement.{statement}
-use Rattle.plans.proofs.is_present.Tie as tie
+use Rattle.refusals.proofs.is_present.Statement.{statement}
+use Rattle.refusals.proofs.is_present.Tie as tie
 
 cast-data-present : tie.Need-cast-data-present
 cast-data-present c = search needs

@@ -1,7 +1,7 @@
-use Rattle.plans.specs.Pass.{sends}
+use Rattle.refusals.specs.Refusals.{accesses}
 use borrow.Author.Needs.{needs}
-use Rattle.plans.proofs.is_sent.Statement.{statement}
-use Rattle.plans.proofs.is_sent.Tie as tie
+use Rattle.refusals.proofs.is_accessed.Statement.{statement}
+use Rattle.refusals.proofs.is_accessed.Tie as tie
 
 enum-told : tie.Need-enum-told
 enum-told c = search needs
@@ -13,16 +13,17 @@ enum-told-3 : tie.Need-enum-told-3
 enum-told-3 c = search needs
 
 returns : tie.Need-returns
-unfolding sends
+unfolding accesses
 returns c = rw (c .enum-told .given .1)
 
 returns-2 : tie.Need-returns-2
-unfolding sends
+unfolding accesses
 returns-2 c = rw (c .enum-told2 .given .1)
 
 returns-3 : tie.Need-returns-3
-unfolding sends
+unfolding accesses
 returns-3 c = rw (c .enum-told3 .given .1)
 
-pub is-sent-spec : {M : Type 1} → statement M
-is-sent-spec = tie.close (tie.spec enum-told enum-told-2 enum-told-3 returns returns-2 returns-3)
+pub is-accessed-spec : {M : Type 1} → statement M
+is-accessed-spec =
+    tie.close (tie.spec enum-told enum-told-2 enum-told-3 returns returns-2 returns-3)
