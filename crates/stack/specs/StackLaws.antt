@@ -4,8 +4,8 @@ use Prim.Native.Nat.{ℕ}
 use native.Mathlib.Omega.{arith}
 use lib.ListN.{length, take, length-append, length-take, length-drop}
 use lib.Seq.{take-at}
-use Rattle.machine.specs.declared.Stack.{Stack}
-use Rattle.machine.specs.Stack.{pushOf, popOf, topOf}
+use Rattle.stack.specs.declared.Stack.{Stack}
+use Rattle.stack.specs.Stack.{pushOf, popOf, topOf}
 
 -- A pop after a push gives the word that was pushed ..
 pub top-push : (s : Stack) (word : ℕ) → topOf (pushOf s word) ≡ word

@@ -1,8 +1,8 @@
 use mathlib.Core.Path.{refl}
-use Rattle.machine.specs.Stack.{topOf}
+use Rattle.stack.specs.Stack.{topOf}
 use borrow.Author.Needs.{needs}
-use Rattle.machine.proofs.top.Statement.{statement}
-use Rattle.machine.proofs.top.Tie as tie
+use Rattle.stack.proofs.top.Statement.{statement}
+use Rattle.stack.proofs.top.Tie as tie
 
 array-read-result : tie.Need-array-read-result
 array-read-result c = search needs

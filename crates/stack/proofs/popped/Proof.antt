@@ -1,7 +1,7 @@
-use Rattle.machine.proofs.Eight.{pops}
+use Rattle.stack.proofs.Eight.{pops}
 use borrow.Author.Needs.{needs}
-use Rattle.machine.proofs.popped.Statement.{statement}
-use Rattle.machine.proofs.popped.Tie as tie
+use Rattle.stack.proofs.popped.Statement.{statement}
+use Rattle.stack.proofs.popped.Tie as tie
 
 array-read-t6 : tie.Need-array-read-t6
 array-read-t6 c = search needs

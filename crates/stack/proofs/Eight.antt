@@ -4,8 +4,8 @@ use mathlib.Core.List.{List, [], _∷_, _++_}
 use Prim.Native.Nat.{ℕ}
 use native.Mathlib.Omega.{arith}
 use lib.ListN.{length, getD, take, drop}
-use Rattle.machine.specs.declared.Stack.{Stack}
-use Rattle.machine.specs.Stack.{pushOf, popOf}
+use Rattle.stack.specs.declared.Stack.{Stack}
+use Rattle.stack.specs.Stack.{pushOf, popOf}
 use lib.Seq.{drop-cons, drop-length}
 
 pub eight : (l : List ℕ) → length l ≡ 8

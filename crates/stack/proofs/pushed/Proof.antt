@@ -1,7 +1,7 @@
-use Rattle.machine.proofs.Eight.{pushes}
+use Rattle.stack.proofs.Eight.{pushes}
 use borrow.Author.Needs.{needs}
-use Rattle.machine.proofs.pushed.Statement.{statement}
-use Rattle.machine.proofs.pushed.Tie as tie
+use Rattle.stack.proofs.pushed.Statement.{statement}
+use Rattle.stack.proofs.pushed.Tie as tie
 
 array-read-t7 : tie.Need-array-read-t7
 array-read-t7 c = search needs
