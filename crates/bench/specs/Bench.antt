@@ -24,8 +24,10 @@ use Rattle.passes.specs.Passes.{followed, destination}
 use Rattle.regions.specs.Regions.{dataRegion, dataPresent, inRom, inProgramB0, programPresent}
 use Rattle.slices.specs.Slices.{memoriesFit, portFits, portSpent, slicesFit}
 use Rattle.windows.specs.Windows.{windowOf, programWord}
-use Rattle.plans.specs.Rows.{firstGiven}
-use Rattle.plans.specs.Pass.{accesses, wrongPort, sends, addressAbove, dataAbsent, tableAbsent, outputFull, readWord, wordsRead, effectOf, writeOf, passedMachine, passedWrite, performed, dataAfter, outputAfter}
+use Rattle.refusals.specs.Rows.{firstGiven}
+use Rattle.refusals.specs.Refusals.{accesses, wrongPort, sends, addressAbove, dataAbsent, tableAbsent, outputFull}
+use Rattle.stores.specs.Stores.{writeOf, dataAfter, outputAfter}
+use Rattle.plans.specs.Pass.{readWord, wordsRead, effectOf, passedMachine, passedWrite, performed}
 use Rattle.steps.specs.Table.{decodedAt, secondAddress, secondWord, notRepeatable, secondAbsent, tableFor, refusalOf}
 use Rattle.steps.specs.Step.{pagePlan, planOf, stored, stepOf}
 use Rattle.bench.specs.Cases.{cases, found, expected}

@@ -12,8 +12,9 @@ use Rattle.answers.specs.declared.Answer.the-variants.{Done, CellOutOfRange, Sl
 use Rattle.answers.specs.Numbers.{isDone}
 use Rattle.slices.specs.Slices.{slicesFit}
 use Rattle.plans.specs.declared.Plan.{Plan}
-use Rattle.plans.specs.Rows.{row, firstGiven}
-use Rattle.plans.specs.Pass.{refused, dataAfter, outputAfter}
+use Rattle.refusals.specs.Rows.{row, firstGiven}
+use Rattle.stores.specs.Stores.{dataAfter, outputAfter}
+use Rattle.plans.specs.Pass.{refused}
 use Rattle.plans.specs.StoreLaws.{WriteFits}
 use Rattle.steps.specs.World.{World, Outcome, RunOutcome}
 use Rattle.steps.specs.Table.{checksOf}

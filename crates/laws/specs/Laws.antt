@@ -13,9 +13,10 @@ use Rattle.passes.specs.declared.Effect.{Effect}
 use Rattle.answers.specs.declared.Answer.{Answer}
 use Rattle.answers.specs.declared.Answer.the-variants.{Done}
 use Rattle.answers.specs.Numbers.{numberOf, isDone}
-use Rattle.plans.specs.declared.Write.{Write}
-use Rattle.plans.specs.Rows.{Row, row}
-use Rattle.plans.specs.Pass.{effectOf, passedWrite, dataAfter, outputAfter}
+use Rattle.stores.specs.declared.Write.{Write}
+use Rattle.refusals.specs.Rows.{Row, row}
+use Rattle.stores.specs.Stores.{dataAfter, outputAfter}
+use Rattle.plans.specs.Pass.{effectOf, passedWrite}
 use Rattle.steps.specs.World.{World, RunOutcome}
 use Rattle.steps.specs.Table.{decodedAt, secondWord, tableFor, checksOf}
 use Rattle.steps.specs.Step.{stepOf, runOf}

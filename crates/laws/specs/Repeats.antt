@@ -54,7 +54,9 @@ use Rattle.addressing.specs.Addressing.{pointed, modified, addressed, addressOf
 use Rattle.rules.specs.declared.Words.{Words}
 use Rattle.rules.specs.Rules.{ruleOf}
 use Rattle.slices.specs.Slices.{slicesFit}
-use Rattle.plans.specs.Pass.{addressAbove, dataAbsent, tableAbsent, outputFull, wordsRead, effectOf, passedMachine, passedWrite, performed, dataAfter, outputAfter}
+use Rattle.refusals.specs.Refusals.{addressAbove, dataAbsent, tableAbsent, outputFull}
+use Rattle.stores.specs.Stores.{dataAfter, outputAfter}
+use Rattle.plans.specs.Pass.{wordsRead, effectOf, passedMachine, passedWrite, performed}
 use Rattle.steps.specs.World.{World}
 use Rattle.steps.specs.Table.{decodedAt, secondAddress, secondWord, notRepeatable, secondAbsent, tableFor}
 use Rattle.steps.specs.Step.{stored, stepOf}

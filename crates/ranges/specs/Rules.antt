@@ -39,7 +39,7 @@ use Rattle.passes.specs.declared.Jump.the-variants.{Past, To}
 use Rattle.passes.specs.declared.Effect.{Effect}
 use Rattle.passes.specs.Passes.{withSum, kept, stored, copied, jumped}
 use Rattle.traits.specs.Pages.{traitsOf, transfersTraits}
-use Rattle.plans.specs.Pass.{sends}
+use Rattle.refusals.specs.Refusals.{sends}
 use Rattle.rules.specs.declared.Words.{Words}
 use Rattle.rules.specs.Rules.{ruleOf}
 use Rattle.ranges.specs.Fields.{accumulatorFits, multiplierFits, auxiliaryFits, modesFits, FieldsFit}

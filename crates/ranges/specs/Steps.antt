@@ -26,10 +26,12 @@ use Rattle.addressing.specs.Addressing.{addressOf}
 use Rattle.regions.specs.Regions.{moveAllowed}
 use Rattle.slices.specs.Slices.{memoriesFit, portFits, portSpent, slicesFit}
 use Rattle.slices.specs.SliceLaws.{slices-fit}
-use Rattle.plans.specs.declared.Write.{Write}
-use Rattle.plans.specs.declared.Write.the-variants as Write
-use Rattle.plans.specs.Rows.{Row}
-use Rattle.plans.specs.Pass.{sends, outputFull, wordsRead, effectOf, writeOf, passedMachine, passedWrite, performed, dataAfter, outputAfter}
+use Rattle.stores.specs.declared.Write.{Write}
+use Rattle.stores.specs.declared.Write.the-variants as Write
+use Rattle.refusals.specs.Rows.{Row}
+use Rattle.refusals.specs.Refusals.{sends, outputFull}
+use Rattle.stores.specs.Stores.{writeOf, dataAfter, outputAfter}
+use Rattle.plans.specs.Pass.{wordsRead, effectOf, passedMachine, passedWrite, performed}
 use Rattle.steps.specs.World.{World}
 use Rattle.steps.specs.Table.{decodedAt, secondWord, tableFor}
 use Rattle.steps.specs.Step.{stored, stepOf}

@@ -4,3 +4,4 @@ pub mod Regions
 pub mod RegionFacts
 -- laws
 pub mod RegionLaws
+pub mod AbsentLaws

@@ -32,7 +32,9 @@ fn replay_in(
 {
     set_up(bytes, rom, data, input);
     let ran = run(Machine::reset(), rom, data, input, output, budget);
-    run_line(ran, output, line)
+    let m = ran.m;
+    let answer = ran.answer;
+    run_line(m, answer, ran.steps, output, line)
 }
 
 // A memory to be set up.

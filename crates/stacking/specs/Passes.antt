@@ -31,8 +31,9 @@ use Rattle.rules.specs.Rules.{ruleOf}
 use Rattle.regions.specs.Regions.{inRom, inProgramB0, moveAllowed}
 use Rattle.windows.specs.Windows.{windowOf, programWord}
 use Rattle.windows.specs.WindowLaws.{rom-word, b0-word}
-use Rattle.plans.specs.declared.Write.the-variants as Write
-use Rattle.plans.specs.Pass.{readWord, wordsRead, effectOf, writeOf, passedMachine, passedWrite, performed, dataAfter, outputAfter}
+use Rattle.stores.specs.declared.Write.the-variants as Write
+use Rattle.stores.specs.Stores.{writeOf, dataAfter, outputAfter}
+use Rattle.plans.specs.Pass.{readWord, wordsRead, effectOf, passedMachine, passedWrite, performed}
 use Rattle.steps.specs.World.{World}
 use Rattle.steps.specs.Table.{decodedAt, secondWord}
 use Rattle.steps.specs.Step.{stored, stepOf, runOf}

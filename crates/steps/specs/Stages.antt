@@ -15,8 +15,9 @@ use Rattle.traits.specs.Pages.{traitsOf}
 use Rattle.regions.specs.Regions.{programPresent}
 use Rattle.slices.specs.Slices.{slicesFit}
 use Rattle.plans.specs.declared.Plan.{Plan}
-use Rattle.plans.specs.Rows.{Row, row, firstGiven}
-use Rattle.plans.specs.Pass.{performed, refused, wrongPort, addressAbove, dataAbsent, tableAbsent, outputFull, passRefusal, passPlan}
+use Rattle.refusals.specs.Rows.{Row, row, firstGiven}
+use Rattle.refusals.specs.Refusals.{wrongPort, addressAbove, dataAbsent, tableAbsent, outputFull, passRefusal}
+use Rattle.plans.specs.Pass.{performed, refused, passPlan}
 use Rattle.steps.specs.Table.{decodedAt, secondWord, notRepeatable, secondAbsent, tableFor, refusalOf}
 use Rattle.steps.specs.Step.{pagePlan, planOf}
 

@@ -10,7 +10,8 @@ use Rattle.answers.specs.Numbers.{isDone}
 use Rattle.instructions.specs.declared.Decoded.{Decoded}
 use Rattle.instructions.specs.declared.Decoded.the-variants.{Base, Published, Nothing}
 use Rattle.plans.specs.declared.Plan.{Plan}
-use Rattle.plans.specs.Pass.{performed, refused, dataAfter, outputAfter}
+use Rattle.stores.specs.Stores.{dataAfter, outputAfter}
+use Rattle.plans.specs.Pass.{performed, refused}
 use Rattle.steps.specs.World.{World, Outcome, RunOutcome}
 use Rattle.steps.specs.Table.{decodedAt, secondWord, refusalOf, checksOf}
 

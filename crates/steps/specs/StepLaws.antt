@@ -19,8 +19,9 @@ use Rattle.regions.specs.Regions.{programPresent}
 use Rattle.slices.specs.Slices.{slicesFit}
 use Rattle.slices.specs.SliceLaws.{slices-fit}
 use Rattle.plans.specs.declared.Plan.{Plan}
-use Rattle.plans.specs.Rows.{Row, row, firstGiven}
-use Rattle.plans.specs.Pass.{dataAbsent, refused, performed, passRefusal, passPlan}
+use Rattle.refusals.specs.Rows.{Row, row, firstGiven}
+use Rattle.refusals.specs.Refusals.{dataAbsent, passRefusal}
+use Rattle.plans.specs.Pass.{refused, performed, passPlan}
 use Rattle.plans.specs.StoreLaws.{WriteFits, write-fits}
 use Rattle.steps.specs.World.{World, Outcome, RunOutcome}
 use Rattle.steps.specs.Table.{decodedAt, secondWord, notRepeatable, secondAbsent, checksOf}

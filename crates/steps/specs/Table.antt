@@ -16,8 +16,8 @@ use Rattle.traits.specs.Pages.{traitsOf}
 use Rattle.regions.specs.Regions.{programPresent}
 use Rattle.slices.specs.Slices.{slicesFit}
 use Rattle.windows.specs.Windows.{programWord}
-use Rattle.plans.specs.Rows.{Row, row, firstGiven}
-use Rattle.plans.specs.Pass.{wrongPort, addressAbove, dataAbsent, tableAbsent, outputFull}
+use Rattle.refusals.specs.Rows.{Row, row, firstGiven}
+use Rattle.refusals.specs.Refusals.{wrongPort, addressAbove, dataAbsent, tableAbsent, outputFull}
 
 -- what the word at PC is
 unfoldable pub decodedAt : List ℕ → List ℕ → Machine → Decoded
