@@ -1,0 +1,6 @@
+-- definitions
+pub mod Cells
+pub mod Checks
+-- laws
+pub mod StoreLaws
+pub mod ReadLaws
