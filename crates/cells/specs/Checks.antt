@@ -34,6 +34,9 @@ unfoldable pub withinLimits : ℕ → List ℕ → Bool
 withinLimits zero cells = true
 withinLimits (suc n) cells = withinLimits n cells && leb (getD cells n 0) (getD limits n 0)
 
+unfoldable pub lengthAnswer : List ℕ → Answer
+lengthAnswer cells = cond (eqb (length cells) 34) Done SlicesUnfit
+
 -- Where the length is wrong there are no cells to check: 2 comes first.
 unfoldable pub cellsAnswer : List ℕ → Answer
 cellsAnswer cells =

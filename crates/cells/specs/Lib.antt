@@ -4,3 +4,4 @@ pub mod Checks
 -- laws
 pub mod StoreLaws
 pub mod ReadLaws
+pub mod CheckLaws

@@ -4,7 +4,7 @@ ghost use Prim.Native.Nat.{_%_, _≤_, _<_, _+_};
 ghost use lib.ListN.{length, getD};
 ghost use lib.Seq.{sets};
 ghost use Rattle.cells.specs.Cells.{cellsOf, machineOf, eightAt, firstCells, pointerCells, cursorCells};
-ghost use Rattle.cells.specs.Checks.{withinLimits, cellsAnswer, cellsAfter};
+ghost use Rattle.cells.specs.Checks.{withinLimits, lengthAnswer, cellsAnswer, cellsAfter};
 use answers::Answer;
 use machine::Machine;
 use machine::Stack;
@@ -61,6 +61,16 @@ fn within_limits(cells: &[u32]) -> bool
         i += 1;
     }
     kept
+}
+
+// Whether a slice has as many cells as there are: 0 or 2.
+pub fn length_answer(cells: &[u32]) -> Answer
+    ensures { λ r. ⌜ r ≡ lengthAnswer (now (cells .entry)) ⌝ }
+{
+    if cells.len() != CELLS {
+        return Answer::SlicesUnfit;
+    }
+    Answer::Done
 }
 
 // What a slice of cells is answered by: 2 for its length, then 1.

@@ -1,1 +1,4 @@
 -- definitions
+pub mod Calls
+-- laws
+pub mod CallLaws
