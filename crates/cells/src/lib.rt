@@ -172,7 +172,13 @@ fn from_small(x: u8) -> u32
 fn first_cells(m: Machine) -> [u32; 5]
     ensures { λ r. ⌜ r ≡ firstCells m ⌝ }
 {
-    [m.acc, m.p, from_word(m.t), from_word(m.pc), from_word(m.pfc)]
+    [
+        m.acc,
+        m.p,
+        from_word(m.t),
+        from_word(m.pc),
+        from_word(m.pfc),
+    ]
 }
 
 // AR0 to AR7.

@@ -2,19 +2,13 @@ use Rattle.cells.specs.Cells.{cursorCells}
 use borrow.Author.Needs.{needs}
 use Rattle.cells.proofs.cursor_cells.Statement.{statement}
 use Rattle.cells.proofs.cursor_cells.Tie as tie
-use Rattle.cells.proofs.cursor_cells.Reads as reads
-use Rattle.cells.proofs.cursor_cells.Lts as lts
-use Rattle.cells.proofs.from_word.Reads as from-word-reads
 
--- src/lib.rt:191:6
 from-word-requires : tie.Need-from-word-requires
 from-word-requires c κs = search needs
 
--- src/lib.rt:191:33
 from-word-requires-2 : tie.Need-from-word-requires-2
 from-word-requires-2 c κs = search needs
 
--- src/lib.rt:188:1
 returns : tie.Need-returns
 unfolding cursorCells
 returns c = rw (c .from-word2 .ensures, c .before .from-word .ensures)

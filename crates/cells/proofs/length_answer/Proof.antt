@@ -2,15 +2,11 @@ use Rattle.cells.specs.Checks.{lengthAnswer}
 use borrow.Author.Tests.{ne-eqb, eq-eqb}
 use Rattle.cells.proofs.length_answer.Statement.{statement}
 use Rattle.cells.proofs.length_answer.Tie as tie
-use Rattle.cells.proofs.length_answer.Reads as reads
-use Rattle.cells.proofs.length_answer.Lts as lts
 
--- src/lib.rt:71:9
 returns : tie.Need-returns
 unfolding lengthAnswer
 returns c = simp (ne-eqb _ _ (c .if1 .taken))
 
--- src/lib.rt:67:1
 returns-2 : tie.Need-returns-2
 unfolding lengthAnswer
 returns-2 c = simp (eq-eqb _ _ (c .if1 .left))

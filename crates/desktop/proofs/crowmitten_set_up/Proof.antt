@@ -3,32 +3,22 @@ use Rattle.answers.specs.Numbers.{numberOf}
 use borrow.Author.Needs.{needs}
 use Rattle.desktop.proofs.crowmitten_set_up.Statement.{statement}
 use Rattle.desktop.proofs.crowmitten_set_up.Tie as tie
-use Rattle.desktop.proofs.crowmitten_set_up.Reads as reads
-use Rattle.desktop.proofs.crowmitten_set_up.Lts as lts
-use Rattle.desktop.proofs.number_of.Reads as number-of-reads
-use Rattle.runfile.proofs.setting_up.set_up.Reads as set-up-reads
 
--- src/lib.rt:207:15
 set-up-requires : tie.Need-set-up-requires
 set-up-requires c κs = search needs
 
--- src/lib.rt:207:5
 number-of-requires : tie.Need-number-of-requires
 number-of-requires c κs = search needs
 
--- src/lib.rt:197:1
 same-length : tie.Need-same-length
 same-length c = search needs
 
--- src/lib.rt:197:1
 same-length-2 : tie.Need-same-length-2
 same-length-2 c = search needs
 
--- src/lib.rt:197:1
 same-length-3 : tie.Need-same-length-3
 same-length-3 c = search needs
 
--- src/lib.rt:197:1
 returns : tie.Need-returns
 returns c = (c .number-of .ensures ∙ ap numberOf (c .before .before .before .before .before .before .before .set-up .ensures .0), rw (c .before .before .before .before .before .before .before .set-up .ensures .1 .0, c .before .before .before .before .before .before .before .set-up .ensures .1 .1 .0, c .before .before .before .before .before .before .before .set-up .ensures .1 .1 .1))
 

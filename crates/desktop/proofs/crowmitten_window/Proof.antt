@@ -4,48 +4,31 @@ use borrow.Author.Tests.{not-true, not-false}
 use borrow.Author.Needs.{needs}
 use Rattle.desktop.proofs.crowmitten_window.Statement.{statement}
 use Rattle.desktop.proofs.crowmitten_window.Tie as tie
-use Rattle.desktop.proofs.crowmitten_window.Reads as reads
-use Rattle.desktop.proofs.crowmitten_window.Lts as lts
-use Rattle.answers.proofs.is_done.Reads as is-done-reads
-use Rattle.board.proofs.windows.window_answer.Reads as window-answer-reads
-use Rattle.cells.proofs.cells_answer.Reads as cells-answer-reads
-use Rattle.cells.proofs.machine_of.Reads as machine-of-reads
-use Rattle.desktop.proofs.number_of.Reads as number-of-reads
-use Rattle.desktop.proofs.place_of.Reads as place-of-reads
 
--- src/lib.rt:169:9
 cells-answer-requires : tie.Need-cells-answer-requires
 cells-answer-requires c κs = search needs
 
--- src/lib.rt:170:9
 is-done-requires : tie.Need-is-done-requires
 is-done-requires c κs = search needs
 
--- src/lib.rt:174:9
 number-of-requires : tie.Need-number-of-requires
 number-of-requires c κs = search needs
 
--- src/lib.rt:174:9
 returns : tie.Need-returns
 returns c = window-refused _ (c .before .before .before .cells-answer .ensures) (told (c .before .before .before .cells-answer .ensures) (c .before .before .is-done .ensures) (not-true _ (c .before .if1 .taken))) (c .number-of .ensures) _ _ _
 
--- src/lib.rt:176:9
 machine-of-requires : tie.Need-machine-of-requires
 machine-of-requires c κs = search needs
 
--- src/lib.rt:177:9
 place-of-requires : tie.Need-place-of-requires
 place-of-requires c κs = search needs
 
--- src/lib.rt:181:15
 window-answer-requires : tie.Need-window-answer-requires
 window-answer-requires c κs = search needs
 
--- src/lib.rt:181:5
 number-of-requires-2 : tie.Need-number-of-requires-2
 number-of-requires-2 c κs = search needs
 
--- src/lib.rt:157:1
 returns-2 : tie.Need-returns-2
 returns-2 c = window-made _ (told (c .before .before .before .before .before .before .cells-answer .ensures) (c .before .before .before .before .before .is-done .ensures) (not-false _ (c .before .before .before .before .if1 .left))) (c .before .before .before .machine-of .ensures) _ _ _ _ (c .before .before .place-of .ensures) (c .before .window-answer .ensures) (c .number-of2 .ensures)
 

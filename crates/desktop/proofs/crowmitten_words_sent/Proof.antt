@@ -4,48 +4,31 @@ use borrow.Author.Tests.{not-true, not-false}
 use borrow.Author.Needs.{needs}
 use Rattle.desktop.proofs.crowmitten_words_sent.Statement.{statement}
 use Rattle.desktop.proofs.crowmitten_words_sent.Tie as tie
-use Rattle.desktop.proofs.crowmitten_words_sent.Reads as reads
-use Rattle.desktop.proofs.crowmitten_words_sent.Lts as lts
-use Rattle.answers.proofs.is_done.Reads as is-done-reads
-use Rattle.board.proofs.windows.words_sent.Reads as words-sent-reads
-use Rattle.board.proofs.windows.words_sent_answer.Reads as words-sent-answer-reads
-use Rattle.cells.proofs.cells_answer.Reads as cells-answer-reads
-use Rattle.cells.proofs.machine_of.Reads as machine-of-reads
-use Rattle.desktop.proofs.number_of.Reads as number-of-reads
 
--- src/lib.rt:113:9
 cells-answer-requires : tie.Need-cells-answer-requires
 cells-answer-requires c κs = search needs
 
--- src/lib.rt:114:9
 is-done-requires : tie.Need-is-done-requires
 is-done-requires c κs = search needs
 
--- src/lib.rt:116:9
 number-of-requires : tie.Need-number-of-requires
 number-of-requires c κs = search needs
 
--- src/lib.rt:116:9
 returns : tie.Need-returns
-returns c = sent-refused _ (c .before .before .before .cells-answer .ensures) (told (c .before .before .before .cells-answer .ensures) (c .before .before .is-done .ensures) (not-true _ (c .before .if1 .taken))) (c .number-of .ensures) _
+returns c = sent-refused (c .before .before .before .before .before .before .args .cells .now) (c .before .before .before .cells-answer .ensures) (told (c .before .before .before .cells-answer .ensures) (c .before .before .is-done .ensures) (not-true _ (c .before .if1 .taken))) (c .number-of .ensures) (c .before .before .before .before .before .before .args .output .now)
 
--- src/lib.rt:118:9
 machine-of-requires : tie.Need-machine-of-requires
 machine-of-requires c κs = search needs
 
--- src/lib.rt:119:14
 words-sent-requires : tie.Need-words-sent-requires
 words-sent-requires c κs = search needs
 
--- src/lib.rt:120:15
 words-sent-answer-requires : tie.Need-words-sent-answer-requires
 words-sent-answer-requires c κs = search needs
 
--- src/lib.rt:120:5
 number-of-requires-2 : tie.Need-number-of-requires-2
 number-of-requires-2 c κs = search needs
 
--- src/lib.rt:109:1
 returns-2 : tie.Need-returns-2
 returns-2 c = sent-made _ (told (c .before .before .before .before .before .before .cells-answer .ensures) (c .before .before .before .before .before .is-done .ensures) (not-false _ (c .before .before .before .before .if1 .left))) (c .before .before .before .machine-of .ensures) _ (c .before .before .words-sent .ensures) (c .before .words-sent-answer .ensures) (c .number-of2 .ensures)
 

@@ -5,46 +5,31 @@ use mathlib.Core.Path.{sym, _∙_}
 use borrow.Author.Needs.{needs}
 use Rattle.desktop.proofs.place_of.Statement.{statement}
 use Rattle.desktop.proofs.place_of.Tie as tie
-use Rattle.desktop.proofs.place_of.Reads as reads
-use Rattle.desktop.proofs.place_of.Lts as lts
-use Rattle.answers.proofs.is_done.Reads as is-done-reads
-use Rattle.board.proofs.regions.in_rom.Reads as in-rom-reads
-use Rattle.board.proofs.windows.window_answer.Reads as window-answer-reads
-use Rattle.desktop.proofs.window_length.Reads as window-length-reads
 
--- src/lib.rt:134:17
 window-answer-requires : tie.Need-window-answer-requires
 window-answer-requires c κs = search needs
 
--- src/lib.rt:134:9
 is-done-requires : tie.Need-is-done-requires
 is-done-requires c κs = search needs
 
--- src/lib.rt:135:9
 returns : tie.Need-returns
 returns c = no-place _ _ _ _ (told (c .before .before .window-answer .ensures) (c .before .is-done .ensures) (not-true _ (c .if1 .taken)))
 
--- src/lib.rt:142:9
 window-length-requires : tie.Need-window-length-requires
 window-length-requires c κs = search needs
 
--- src/lib.rt:143:8
 in-rom-requires : tie.Need-in-rom-requires
 in-rom-requires c κs = search needs
 
--- src/lib.rt:144:9
 returns-2 : tie.Need-returns-2
 returns-2 c = rom-place _ _ _ _ (told (c .before .before .before .before .before .window-answer .ensures) (c .before .before .before .before .is-done .ensures) (not-false _ (c .before .before .before .if1 .left))) (c .before .before .window-length .ensures) (sym (c .before .in-rom .ensures) ∙ c .if2 .taken)
 
--- src/lib.rt:152:15
 sub-t11 : tie.Need-sub-t11
 sub-t11 c = past-rom _ _ _ _ (told (c .before .before .before .before .before .window-answer .ensures) (c .before .before .before .before .is-done .ensures) (not-false _ (c .before .before .before .if1 .left))) (sym (c .before .in-rom .ensures) ∙ c .if2 .left)
 
--- src/lib.rt:152:15
 add-t12 : tie.Need-add-t12
 add-t12 c = search needs
 
--- src/lib.rt:131:1
 returns-3 : tie.Need-returns-3
 returns-3 c = data-place _ _ _ _ (told (c .before .before .before .before .before .window-answer .ensures) (c .before .before .before .before .is-done .ensures) (not-false _ (c .before .before .before .if1 .left))) (c .before .before .window-length .ensures) (sym (c .before .in-rom .ensures) ∙ c .if2 .left)
 
