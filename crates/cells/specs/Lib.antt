@@ -5,3 +5,6 @@ pub mod Checks
 pub mod StoreLaws
 pub mod ReadLaws
 pub mod CheckLaws
+pub mod CellLaws
+pub mod BackLaws
+pub mod RangeLaws

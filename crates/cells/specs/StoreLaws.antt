@@ -22,7 +22,7 @@ sets-whole vs l h =
 
 -- ---- the cells of a machine
 
-cells-length : (m : Machine) → length (m .ar) ≡ 8 → length (m .stack .words) ≡ 8 → length (cellsOf m) ≡ 34
+pub cells-length : (m : Machine) → length (m .ar) ≡ 8 → length (m .stack .words) ≡ 8 → length (cellsOf m) ≡ 34
 unfolding cellsOf firstCells pointerCells cursorCells
 cells-length m a s = simp (length-append, a, s)
 
