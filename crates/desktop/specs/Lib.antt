@@ -2,3 +2,4 @@
 pub mod Calls
 -- laws
 pub mod CallLaws
+pub mod ShownLaws
