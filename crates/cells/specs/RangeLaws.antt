@@ -8,6 +8,7 @@ use lib.Dec.{leb}
 use lib.ListN.{length, getD, replicate}
 use borrow.Author.Tests.{le-leb, eq-eqb}
 use Rattle.machine.specs.declared.Machine.{Machine}
+use Rattle.machine.specs.Reset.{resetMachine}
 use Rattle.machine.specs.Range.{inRange, Ranged}
 use Rattle.machine.specs.RangeLaws.{ranged, in-range}
 use Rattle.answers.specs.declared.Answer.the-variants.{Done, CellOutOfRange}
@@ -129,3 +130,8 @@ module _ (m : Machine) (h : WordsHeld m) where
       by true e w f = most-within (cellsOf m) 34 (most-at (cellsOf m) limits (cells-most (ranged m e))) ∙ sym e
       by false e false f = f ∙ sym e
       by false e true f = absurd (false≢true (sym e ∙ within-ranged f))
+
+-- the cells after reset pass
+pub reset-passes : cellsAnswer (cellsOf resetMachine) ≡ Done
+unfolding cellsAnswer withinLimits limits cellsOf firstCells pointerCells cursorCells resetMachine
+reset-passes = refl
