@@ -67,10 +67,10 @@ fn within_limits(cells: &[u32]) -> bool
 pub fn length_answer(cells: &[u32]) -> Answer
     ensures { λ r. ⌜ r ≡ lengthAnswer (now (cells .entry)) ⌝ }
 {
-    if cells.len() != CELLS {
-        return Answer::SlicesUnfit;
+    if cells.len() == CELLS {
+        return Answer::Done;
     }
-    Answer::Done
+    Answer::SlicesUnfit
 }
 
 // What a slice of cells is answered by: 2 for its length, then 1.
@@ -267,7 +267,8 @@ fn put_all(cells: &mut [u32], m: Machine)
 pub fn put_cells(cells: &mut [u32], m: Machine)
     ensures { λ _. ⌜ now (cells .exit) ≡ cellsAfter (now (cells .entry)) m ⌝ }
 {
-    if cells.len() != CELLS {
+    let count = cells.len();
+    if count != CELLS {
         return;
     }
     put_all(cells, m);

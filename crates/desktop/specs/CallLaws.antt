@@ -24,7 +24,7 @@ use Rattle.emulator.specs.Step.{stepOf, runOf}
 use Rattle.cells.specs.Cells.{machineOf, cellsOf}
 use Rattle.cells.specs.Checks.{cellsAnswer, cellsAfter}
 use Rattle.cells.specs.CheckLaws.{kept-after}
-use Rattle.desktop.specs.declared.Place.{Place}
+use Rattle.desktop.specs.declared.window.Place.{Place}
 use Rattle.desktop.specs.Calls.{Called, RunCalled, Placed, called, worldOf, worldCalled, stepCalled, runDone, runCalled, counted, sentCalled, placeOf, placed, windowCalled, writtenCount}
 
 -- ---- calls with cells

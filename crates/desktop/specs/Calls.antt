@@ -15,7 +15,7 @@ use Rattle.emulator.specs.World.{World, Outcome, RunOutcome}
 use Rattle.emulator.specs.Step.{stepOf, runOf}
 use Rattle.cells.specs.Cells.{machineOf, cellsOf}
 use Rattle.cells.specs.Checks.{lengthAnswer, cellsAnswer, cellsAfter}
-use Rattle.desktop.specs.declared.Place.{Place}
+use Rattle.desktop.specs.declared.window.Place.{Place}
 
 -- ---- reset, step, run
 

@@ -16,7 +16,7 @@ use Rattle.board.specs.Windows.{windowOf, windowAnswer, windowShown, wordsSentA
 use Rattle.board.specs.WindowLaws.{window-done, rom-window-length, b0-window-length, sent-length, refused-sent}
 use Rattle.cells.specs.Cells.{machineOf}
 use Rattle.cells.specs.Checks.{cellsAnswer}
-use Rattle.desktop.specs.declared.Place.{Place}
+use Rattle.desktop.specs.declared.window.Place.{Place}
 use Rattle.desktop.specs.Calls.{placeOf, sentCalled}
 
 -- ---- the words sent

@@ -1,8 +1,8 @@
 use mathlib.Core.Path.{ap, _∙_}
 use Rattle.answers.specs.Numbers.{numberOf}
 use borrow.Author.Needs.{needs}
-use Rattle.desktop.proofs.crowmitten_reset.Statement.{statement}
-use Rattle.desktop.proofs.crowmitten_reset.Tie as tie
+use Rattle.desktop.proofs.running.crowmitten_reset.Statement.{statement}
+use Rattle.desktop.proofs.running.crowmitten_reset.Tie as tie
 
 length-answer-requires : tie.Need-length-answer-requires
 length-answer-requires c κs = search needs

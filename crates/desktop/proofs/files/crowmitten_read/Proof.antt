@@ -2,8 +2,8 @@ use Rattle.desktop.specs.CallLaws.{head-counts}
 use mathlib.Core.Path.{ap, _∙_}
 use Rattle.answers.specs.Numbers.{numberOf}
 use borrow.Author.Needs.{needs}
-use Rattle.desktop.proofs.crowmitten_read.Statement.{statement}
-use Rattle.desktop.proofs.crowmitten_read.Tie as tie
+use Rattle.desktop.proofs.files.crowmitten_read.Statement.{statement}
+use Rattle.desktop.proofs.files.crowmitten_read.Tie as tie
 
 head-of-requires : tie.Need-head-of-requires
 head-of-requires c κs = search needs

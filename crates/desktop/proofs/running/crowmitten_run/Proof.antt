@@ -2,8 +2,8 @@ use Rattle.desktop.specs.CallLaws.{run-refused, run-made}
 use Rattle.runfile.specs.FileLaws.{told}
 use borrow.Author.Tests.{not-true, not-false}
 use borrow.Author.Needs.{needs}
-use Rattle.desktop.proofs.crowmitten_run.Statement.{statement}
-use Rattle.desktop.proofs.crowmitten_run.Tie as tie
+use Rattle.desktop.proofs.running.crowmitten_run.Statement.{statement}
+use Rattle.desktop.proofs.running.crowmitten_run.Tie as tie
 
 cells-answer-requires : tie.Need-cells-answer-requires
 cells-answer-requires c κs = search needs

@@ -4,8 +4,8 @@ use borrow.Author.Tests.{not-true, not-false}
 use mathlib.Core.Path.{ap, _∙_}
 use Rattle.answers.specs.Numbers.{numberOf}
 use borrow.Author.Needs.{needs}
-use Rattle.desktop.proofs.crowmitten_write.Statement.{statement}
-use Rattle.desktop.proofs.crowmitten_write.Tie as tie
+use Rattle.desktop.proofs.files.crowmitten_write.Statement.{statement}
+use Rattle.desktop.proofs.files.crowmitten_write.Tie as tie
 
 write-file-requires : tie.Need-write-file-requires
 write-file-requires c κs = search needs

@@ -3,8 +3,8 @@ use Rattle.runfile.specs.FileLaws.{told}
 use borrow.Author.Tests.{not-true, not-false}
 use mathlib.Core.Path.{sym, _∙_}
 use borrow.Author.Needs.{needs}
-use Rattle.desktop.proofs.place_of.Statement.{statement}
-use Rattle.desktop.proofs.place_of.Tie as tie
+use Rattle.desktop.proofs.window.place_of.Statement.{statement}
+use Rattle.desktop.proofs.window.place_of.Tie as tie
 
 window-answer-requires : tie.Need-window-answer-requires
 window-answer-requires c κs = search needs

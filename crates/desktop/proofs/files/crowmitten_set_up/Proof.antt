@@ -1,8 +1,8 @@
 use mathlib.Core.Path.{ap, _∙_}
 use Rattle.answers.specs.Numbers.{numberOf}
 use borrow.Author.Needs.{needs}
-use Rattle.desktop.proofs.crowmitten_set_up.Statement.{statement}
-use Rattle.desktop.proofs.crowmitten_set_up.Tie as tie
+use Rattle.desktop.proofs.files.crowmitten_set_up.Statement.{statement}
+use Rattle.desktop.proofs.files.crowmitten_set_up.Tie as tie
 
 set-up-requires : tie.Need-set-up-requires
 set-up-requires c κs = search needs

@@ -1,8 +1,8 @@
 use mathlib.Core.Path.{ap}
 use lib.ListN.{length}
 use borrow.Author.Needs.{needs}
-use Rattle.desktop.proofs.window_length.Statement.{statement}
-use Rattle.desktop.proofs.window_length.Tie as tie
+use Rattle.desktop.proofs.window.window_length.Statement.{statement}
+use Rattle.desktop.proofs.window.window_length.Tie as tie
 
 window-requires : tie.Need-window-requires
 window-requires c κs = search needs
