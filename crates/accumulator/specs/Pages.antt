@@ -1,10 +1,11 @@
 -- The accumulator's pages. Each definition is named as its page, and gives the machine after it, or the word that it stores.
 -- The machine is that after the operand's modification, w the data word that was read.
 use Prim.Native.Nat.{ℕ}
-use Rattle.words.specs.Sums.{added, subtracted, addedHigh, subtractedHigh, subtractedConditionally, negated, absolute, inHighHalf}
-use Rattle.words.specs.Shifts.{operand, unsignedOperand, storedLow, storedHigh, leftByOne, rightByOne}
+use Rattle.sums.specs.Sums.{added, subtracted}
+use Rattle.page_sums.specs.PageSums.{addedHigh, subtractedHigh, subtractedConditionally, negated, absolute, inHighHalf}
+use Rattle.shifts.specs.Shifts.{operand, unsignedOperand, storedLow, storedHigh, leftByOne, rightByOne}
 use Rattle.words.specs.Logic.{anded, ored, xored, complemented}
-use Rattle.words.specs.declared.shifts.Shifted.{Shifted}
+use Rattle.shifts.specs.declared.Shifted.{Shifted}
 use Rattle.machine.specs.declared.Machine.{Machine}
 use Rattle.machine.specs.Cells.{withAcc, withC}
 use Rattle.passes.specs.Passes.{withSum}

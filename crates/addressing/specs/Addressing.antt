@@ -1,6 +1,6 @@
 -- Operands: their addresses and their modifications (document 01, "Direct operand" and "Indirect").
 use Prim.Native.Nat.{ℕ, _+_, _*_}
-use Rattle.words.specs.Registers.{wrappedSum, wrappedDifference, reversedSum, reversedDifference}
+use Rattle.registers.specs.Registers.{wrappedSum, wrappedDifference, reversedSum, reversedDifference}
 use Rattle.machine.specs.declared.Machine.{Machine}
 use Rattle.machine.specs.Cells.{withArp, withArb, register, withRegister}
 use Rattle.instructions.specs.declared.Modification.{Modification}

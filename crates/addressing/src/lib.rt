@@ -6,7 +6,6 @@ use instructions::Modification;
 use instructions::NextArp;
 use machine::Machine;
 use traits::Operand;
-use words::registers;
 ghost use mathlib.Core.Path.{_≡_};
 ghost use Rattle.machine.specs.Cells.{register, withRegister};
 ghost use Rattle.addressing.specs.Addressing.{moved, pointed, modified, addressed, addressOf};

@@ -1,1 +1,5 @@
+-- definitions
+pub mod Shared
+-- proofs
 pub mod Apart
+pub mod SharedLaws

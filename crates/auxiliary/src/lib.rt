@@ -6,7 +6,6 @@ use machine::Machine;
 use passes::Effect;
 use passes::keep;
 use passes::store_word;
-use words::registers;
 ghost use mathlib.Core.Path.{_≡_};
 ghost use Rattle.auxiliary.specs.Pages.{LAR, SAR, LARK, MAR, ADRK, SBRK, LDP, LDPK};
 ghost use Rattle.auxiliary.specs.Rule.{auxiliaryRule};

@@ -7,8 +7,8 @@ use Rattle.machine.specs.declared.Machine.{Machine}
 use Rattle.machine.specs.Cells.{withAcc, withP, withT, withPc, withPm, withOv, withOvm, withC, withArp, register, withRegister}
 use Rattle.machine.specs.Reset.{resetMachine}
 use Rattle.answers.specs.Numbers.{numberOf}
-use Rattle.emulator.specs.World.{World, Outcome}
-use Rattle.emulator.specs.Step.{stepOf}
+use Rattle.steps.specs.World.{World, Outcome}
+use Rattle.steps.specs.Step.{stepOf}
 
 pub record Case : Type 0 where
   pub instruction : ℕ

@@ -6,7 +6,7 @@ use lib.Dec.{eqb}
 use lib.IntN.{pos}
 use lib.Signed.{leZ, ltZ}
 use Rattle.words.specs.Word.{signed}
-use Rattle.words.specs.Registers.{wrappedSum}
+use Rattle.registers.specs.Registers.{wrappedSum}
 use Rattle.machine.specs.declared.Machine.{Machine}
 use Rattle.machine.specs.Cells.{withOv, register}
 use Rattle.machine.specs.Stack.{pushOn, popOn}

@@ -7,7 +7,6 @@ use machine::push_on;
 use passes::Effect;
 use passes::jump_to;
 use passes::keep;
-use words::registers;
 ghost use mathlib.Core.Path.{_≡_};
 ghost use Rattle.machine.specs.Cells.{withOv};
 ghost use Rattle.branches.specs.Pages.{branched, B, BANZ, BZ, BNZ, BGZ, BGEZ, BLZ, BLEZ, BV, BNV, CALL, RET};

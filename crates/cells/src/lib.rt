@@ -7,7 +7,7 @@ ghost use Rattle.cells.specs.Cells.{cellsOf, machineOf, eightAt, firstCe
 ghost use Rattle.cells.specs.Checks.{withinLimits, lengthAnswer, cellsAnswer, cellsAfter};
 use answers::Answer;
 use machine::Machine;
-use machine::Stack;
+use stack::Stack;
 
 const CELLS: usize = 34;
 

@@ -8,19 +8,21 @@ use Rattle.machine.specs.declared.Machine.{Machine}
 use Rattle.answers.specs.declared.Answer.{Answer}
 use Rattle.answers.specs.Numbers.{numberOf, isDone}
 use Rattle.answers.specs.NumberLaws.{done-is}
-use Rattle.board.specs.Regions.{inRom, inProgramB0, programPresent}
-use Rattle.board.specs.RegionLaws.{program-b0}
-use Rattle.board.specs.Windows.{windowAnswer, windowShown, wordsSentAnswer, wordsSent}
-use Rattle.board.specs.WindowLaws.{window-done}
+use Rattle.regions.specs.Regions.{inRom, inProgramB0, programPresent}
+use Rattle.regions.specs.RegionLaws.{program-b0}
+use Rattle.windows.specs.Windows.{windowAnswer, windowShown, wordsSentAnswer, wordsSent}
+use Rattle.windows.specs.WindowLaws.{window-done}
 use Rattle.runfile.specs.declared.reading.Head.{Head}
 use Rattle.runfile.specs.Files.{Contents, fileOf, fileLength, withinLimits, readContents, headOf}
-use Rattle.runfile.specs.Writing.{writeAnswer}
+use Rattle.writing.specs.Writing.{writeAnswer}
 use Rattle.runfile.specs.Facts.{CountsKept}
-use Rattle.runfile.specs.FileLaws.{counts-facts, file-length, write-facts}
+use Rattle.runfile.specs.FileLaws.{counts-facts, file-length}
+use Rattle.writing.specs.WritingLaws.{write-facts}
 use Rattle.emulator.specs.declared.Stepped.{Stepped}
 use Rattle.emulator.specs.declared.Ran.{Ran}
-use Rattle.emulator.specs.World.{Outcome, RunOutcome, stepped, ran}
-use Rattle.emulator.specs.Step.{stepOf, runOf}
+use Rattle.steps.specs.World.{Outcome, RunOutcome}
+use Rattle.emulator.specs.Outcomes.{stepped, ran}
+use Rattle.steps.specs.Step.{stepOf, runOf}
 use Rattle.cells.specs.Cells.{machineOf, cellsOf}
 use Rattle.cells.specs.Checks.{cellsAnswer, cellsAfter}
 use Rattle.cells.specs.CheckLaws.{kept-after}

@@ -7,12 +7,12 @@ use Rattle.machine.specs.declared.Machine.{Machine}
 use Rattle.machine.specs.Reset.{resetMachine}
 use Rattle.answers.specs.declared.Answer.{Answer}
 use Rattle.answers.specs.Numbers.{numberOf, isDone}
-use Rattle.board.specs.Regions.{inRom}
-use Rattle.board.specs.Windows.{windowAnswer, windowShown, wordsSentAnswer, wordsSent}
+use Rattle.regions.specs.Regions.{inRom}
+use Rattle.windows.specs.Windows.{windowAnswer, windowShown, wordsSentAnswer, wordsSent}
 use Rattle.runfile.specs.Files.{Contents, fileOf, readAnswer, readContents}
-use Rattle.runfile.specs.Writing.{writeAnswer, written}
-use Rattle.emulator.specs.World.{World, Outcome, RunOutcome}
-use Rattle.emulator.specs.Step.{stepOf, runOf}
+use Rattle.writing.specs.Writing.{writeAnswer, written}
+use Rattle.steps.specs.World.{World, Outcome, RunOutcome}
+use Rattle.steps.specs.Step.{stepOf, runOf}
 use Rattle.cells.specs.Cells.{machineOf, cellsOf}
 use Rattle.cells.specs.Checks.{lengthAnswer, cellsAnswer, cellsAfter}
 use Rattle.desktop.specs.declared.window.Place.{Place}

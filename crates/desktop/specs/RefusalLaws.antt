@@ -8,8 +8,8 @@ use lib.Dec.{eqb}
 use lib.ListN.{length}
 use Rattle.answers.specs.declared.Answer.{Answer}
 use Rattle.answers.specs.Numbers.{numberOf, isDone}
-use Rattle.emulator.specs.World.{World, RunOutcome}
-use Rattle.emulator.specs.Step.{stepOf, runOf}
+use Rattle.steps.specs.World.{World, RunOutcome}
+use Rattle.steps.specs.Step.{stepOf, runOf}
 use Rattle.laws.specs.Steps.{refused-unchanged}
 use Rattle.cells.specs.Checks.{cellsAnswer}
 use Rattle.cells.specs.CellLaws.{cells-machine}

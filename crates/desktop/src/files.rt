@@ -3,17 +3,17 @@ ghost use mathlib.Core.Path.{_≡_};
 ghost use lib.ListN.{length};
 ghost use Rattle.answers.specs.Numbers.{numberOf};
 ghost use Rattle.runfile.specs.Files.{readAnswer, readContents, fileLength};
-ghost use Rattle.runfile.specs.SetUp.{lent, setUpAnswer, setUp};
-ghost use Rattle.runfile.specs.Writing.{contents, writeAnswer, written};
+ghost use Rattle.setting_up.specs.SetUp.{lent, setUpAnswer, setUp};
+ghost use Rattle.writing.specs.Writing.{contents, writeAnswer, written};
 ghost use Rattle.runfile.specs.Facts.{CountsKept};
 ghost use Rattle.desktop.specs.Calls.{writtenCount};
 use crate::numbers::number_of;
 use answers::is_done;
 use runfile::reading::head_of;
 use runfile::reading::read_answer;
-use runfile::setting_up::set_up;
-use runfile::writing::file_length;
-use runfile::writing::write_file;
+use setting_up::set_up;
+use writing::file_length;
+use writing::write_file;
 
 // What a run file asks for: the length of its input slice, and its budget.
 #[no_mangle]

@@ -3,8 +3,8 @@ ghost use mathlib.Core.Path.{_≡_};
 ghost use Rattle.desktop.specs.Calls.{counted, sentCalled};
 use crate::numbers::number_of;
 use answers::is_done;
-use board::windows::words_sent;
-use board::windows::words_sent_answer;
+use windows::words_sent;
+use windows::words_sent_answer;
 use cells::cells_answer;
 use cells::machine_of;
 

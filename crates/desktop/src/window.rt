@@ -1,13 +1,13 @@
 // The fetch window.
 ghost use mathlib.Core.Path.{_≡_};
 ghost use lib.ListN.{length};
-ghost use Rattle.board.specs.Windows.{windowShown};
+ghost use Rattle.windows.specs.Windows.{windowShown};
 ghost use Rattle.desktop.specs.Calls.{placeOf, placed, windowCalled};
 use crate::numbers::number_of;
 use answers::is_done;
-use board::regions::in_rom;
-use board::windows::window;
-use board::windows::window_answer;
+use regions::in_rom;
+use windows::window;
+use windows::window_answer;
 use cells::cells_answer;
 use cells::machine_of;
 use machine::Machine;

@@ -1,5 +1,4 @@
-pub mod World
-pub mod Table
-pub mod Step
-pub mod Stages
-pub mod StepLaws
+-- definitions
+pub mod Outcomes
+-- proofs
+pub mod RunLaws

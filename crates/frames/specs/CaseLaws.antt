@@ -6,8 +6,8 @@ use native.Mathlib.Omega.{arith}
 use lib.ListN.{length, getD, replicate}
 use Rattle.words.specs.Whole.{dn}
 use Rattle.words.specs.Word.{signed, low}
-use Rattle.words.specs.Sums.{holds, held, settled, carry, added}
-use Rattle.words.specs.Products.{product, productWord, scaled, amountOf, shiftedProduct}
+use Rattle.sums.specs.Sums.{holds, held, settled, carry, added}
+use Rattle.products.specs.Products.{product, productWord, scaled, amountOf, shiftedProduct}
 use Rattle.frames.specs.Frames.{Pair, fromZero, productAdded, accumulated, passed, stacked, exactSum, Every, Words, Least, BothLeast, AllLeast}
 use Rattle.frames.specs.FrameCases.{least, allLeast, firstChanged, lastChanged, allLost, Cases}
 

@@ -5,8 +5,8 @@ use Prim.Native.Nat.{ℕ, _*_, _^_, _<_}
 use lib.IntN.{ℤ, pos, negℤ, _+ℤ_, _-ℤ_, _*ℤ_}
 use lib.Signed.{_≤ℤ_}
 use Rattle.words.specs.Word.{signed}
-use Rattle.words.specs.Sums.{added}
-use Rattle.words.specs.Products.{product, productWord, shiftedProduct}
+use Rattle.sums.specs.Sums.{added}
+use Rattle.products.specs.Products.{product, productWord, shiftedProduct}
 
 -- the two words that one pass reads, from data memory and from program memory
 pub record Pair : Type 0 where

@@ -4,7 +4,7 @@
 // A line is `KIND PLACE VALUE LABEL`: N begins a case and prints its label, S puts the value into the place, R runs with the value as its
 // budget, P prints its label and the place in hexadecimal, E ends the case.
 use machine::Machine;
-use machine::Stack;
+use stack::Stack;
 
 const STDIN: i32 = 0;
 

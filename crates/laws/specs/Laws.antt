@@ -4,7 +4,7 @@ use mathlib.Core.Bool.{true, false}
 use mathlib.Core.List.{List, [], _∷_, _++_}
 use Prim.Native.Nat.{ℕ, zero, suc, _+_, _≤_, _<_}
 use lib.ListN.{length}
-use Rattle.words.specs.Registers.{wrappedSum}
+use Rattle.registers.specs.Registers.{wrappedSum}
 use Rattle.machine.specs.Cells.{withPc, withMid, withRptc}
 use Rattle.instructions.specs.declared.Instruction.{Instruction}
 use Rattle.instructions.specs.declared.Decoded.the-variants.{Base}
@@ -13,12 +13,13 @@ use Rattle.passes.specs.declared.Effect.{Effect}
 use Rattle.answers.specs.declared.Answer.{Answer}
 use Rattle.answers.specs.declared.Answer.the-variants.{Done}
 use Rattle.answers.specs.Numbers.{numberOf, isDone}
-use Rattle.plans.specs.declared.Write.{Write}
-use Rattle.plans.specs.Rows.{Row, row}
-use Rattle.plans.specs.Pass.{effectOf, passedWrite, dataAfter, outputAfter}
-use Rattle.emulator.specs.World.{World, RunOutcome}
-use Rattle.emulator.specs.Table.{decodedAt, secondWord, tableFor, checksOf}
-use Rattle.emulator.specs.Step.{stepOf, runOf}
+use Rattle.stores.specs.declared.Write.{Write}
+use Rattle.refusals.specs.Rows.{Row, row}
+use Rattle.stores.specs.Stores.{dataAfter, outputAfter}
+use Rattle.plans.specs.Pass.{effectOf, passedWrite}
+use Rattle.steps.specs.World.{World, RunOutcome}
+use Rattle.steps.specs.Table.{decodedAt, secondWord, tableFor, checksOf}
+use Rattle.steps.specs.Step.{stepOf, runOf}
 
 -- ---- a refused step
 

@@ -7,7 +7,7 @@ use native.Mathlib.Omega.{arith}
 use lib.Dec.{ltb}
 use lib.ListN.{length}
 use borrow.Author.Tests.{lt-ltb, not-false}
-use Rattle.words.specs.Registers.{wrappedSum}
+use Rattle.registers.specs.Registers.{wrappedSum}
 use Rattle.machine.specs.declared.Machine.{Machine}
 use Rattle.machine.specs.Cells.{withPc, withMid, withRptc}
 use Rattle.machine.specs.Range.{inRange}
@@ -53,11 +53,13 @@ use Rattle.traits.specs.Pages.{accumulatorTraits, multiplierTraits, auxiliaryTr
 use Rattle.addressing.specs.Addressing.{pointed, modified, addressed, addressOf}
 use Rattle.rules.specs.declared.Words.{Words}
 use Rattle.rules.specs.Rules.{ruleOf}
-use Rattle.board.specs.Slices.{slicesFit}
-use Rattle.plans.specs.Pass.{addressAbove, dataAbsent, tableAbsent, outputFull, wordsRead, effectOf, passedMachine, passedWrite, performed, dataAfter, outputAfter}
-use Rattle.emulator.specs.World.{World}
-use Rattle.emulator.specs.Table.{decodedAt, secondAddress, secondWord, notRepeatable, secondAbsent, tableFor}
-use Rattle.emulator.specs.Step.{stored, stepOf}
+use Rattle.slices.specs.Slices.{slicesFit}
+use Rattle.refusals.specs.Refusals.{addressAbove, dataAbsent, tableAbsent, outputFull}
+use Rattle.stores.specs.Stores.{dataAfter, outputAfter}
+use Rattle.plans.specs.Pass.{wordsRead, effectOf, passedMachine, passedWrite, performed}
+use Rattle.steps.specs.World.{World}
+use Rattle.steps.specs.Table.{decodedAt, secondAddress, secondWord, notRepeatable, secondAbsent, tableFor}
+use Rattle.steps.specs.Step.{stored, stepOf}
 use Rattle.laws.specs.Laws.{rowsOf, NoneHolds, recounted, workOf, effectAt, writeAt, PassWorks, EveryPassWorks}
 use Rattle.laws.specs.Steps.{_and_, row-not, step-world, row-given}
 

@@ -7,10 +7,10 @@ use native.Mathlib.Nat.{zero-add}
 use native.Mathlib.Omega.{arith}
 use lib.ListN.{length}
 use Rattle.answers.specs.Numbers.{numberOf, isDone}
-use Rattle.plans.specs.Rows.{Row, firstGiven}
-use Rattle.emulator.specs.World.{World, RunOutcome}
-use Rattle.emulator.specs.Table.{tableFor, checksOf}
-use Rattle.emulator.specs.Step.{stepOf, oneMore, runOf}
+use Rattle.refusals.specs.Rows.{Row, firstGiven}
+use Rattle.steps.specs.World.{World, RunOutcome}
+use Rattle.steps.specs.Table.{tableFor, checksOf}
+use Rattle.steps.specs.Step.{stepOf, oneMore, runOf}
 use Rattle.laws.specs.Laws.{AnswersOfARun, worldAfter, AllDone, RunIs, continued, RunsAdd}
 use Rattle.laws.specs.Steps.{step-answer, refused-unchanged, answers-of-a-step, checks-most}
 

@@ -14,11 +14,12 @@ use Rattle.instructions.specs.declared.Instruction.{Instruction}
 use Rattle.instructions.specs.declared.Decoded.{Decoded}
 use Rattle.instructions.specs.declared.Decoded.the-variants.{Base, Published, Nothing}
 use Rattle.plans.specs.declared.Plan.{Plan}
-use Rattle.plans.specs.Rows.{Row, row, firstGiven}
-use Rattle.plans.specs.Pass.{performed, refused, dataAfter, outputAfter}
-use Rattle.emulator.specs.World.{World}
-use Rattle.emulator.specs.Table.{decodedAt, secondWord, tableFor, refusalOf, checksOf}
-use Rattle.emulator.specs.Step.{pagePlan, planOf, stored, stepOf}
+use Rattle.refusals.specs.Rows.{Row, row, firstGiven}
+use Rattle.stores.specs.Stores.{dataAfter, outputAfter}
+use Rattle.plans.specs.Pass.{performed, refused}
+use Rattle.steps.specs.World.{World}
+use Rattle.steps.specs.Table.{decodedAt, secondWord, tableFor, refusalOf, checksOf}
+use Rattle.steps.specs.Step.{pagePlan, planOf, stored, stepOf}
 use Rattle.laws.specs.Laws.{RefusedUnchanged, AnswersOfAStep, rowsOf, NoneHolds, GivenBy, RowGiven}
 
 -- facts one after another

@@ -12,8 +12,8 @@ use borrow.Author.Tests.{ltb-true, ltb-false, lt-ltb, le-ltb, le-leb, lt-leb}
 use Rattle.machine.specs.declared.Machine.{Machine}
 use Rattle.answers.specs.declared.Answer.{Answer}
 use Rattle.answers.specs.Numbers.{numberOf, isDone}
-use Rattle.board.specs.Windows.{wordsSentAnswer, wordsSent}
-use Rattle.board.specs.WindowLaws.{sent-done, sent-length, refused-sent}
+use Rattle.windows.specs.Windows.{wordsSentAnswer, wordsSent}
+use Rattle.windows.specs.WindowLaws.{sent-done, sent-length, refused-sent}
 use Rattle.runfile.specs.WordLaws.{sets-append, sets-front}
 use Rattle.line.specs.Lines.{digitOf, hexadecimal, decimalWithin, decimal, space, newline, parted, lineOf, refusedLine, lineIn, lengthIn}
 use Rattle.line.specs.Facts.{Put, Room, wordFields, cellFields, linePut, WordsPut, Counted}

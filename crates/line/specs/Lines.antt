@@ -7,7 +7,7 @@ use lib.ListN.{length, drop}
 use Rattle.machine.specs.declared.Machine.{Machine}
 use Rattle.answers.specs.declared.Answer.{Answer}
 use Rattle.answers.specs.Numbers.{numberOf}
-use Rattle.board.specs.Windows.{wordsSent}
+use Rattle.windows.specs.Windows.{wordsSent}
 
 -- the ASCII code of a digit: "0" is 48, and "capitals" start at "A", 65
 unfoldable pub digitOf : ℕ → ℕ

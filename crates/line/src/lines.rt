@@ -12,8 +12,8 @@ use crate::fields::put_cells;
 use crate::fields::put_words;
 use answers::Answer;
 use answers::number;
-use board::windows::words_sent;
-use emulator::Ran;
+use machine::Machine;
+use windows::words_sent;
 
 // How many bytes a line has: beside the decimal fields and the words, 17 for PC, ACC, the spaces and the newline.
 fn line_length(answer: u32, steps: u32, ov: u32, words: usize) -> usize
@@ -60,18 +60,17 @@ fn fit_line(
     put_line(bytes, answer, steps, pc, acc, ov, words)
 }
 
-// The line of a run, at the start of lent bytes, and its length; where it does not fit, 0 and no byte is put down.
-pub fn run_line(r: Ran, output: &[u16], bytes: &mut [u8]) -> usize
-    ensures { λ n. ⌜ (n ≡ lengthIn (lineOf (r .answer) (r .steps) (r .m) (now (output .entry))) (now (bytes .entry))) × (now (bytes .exit) ≡ lineIn (lineOf (r .answer) (r .steps) (r .m) (now (output .entry))) (now (bytes .entry))) ⌝ }
+// The line of a run, from the answer, the steps and the machine that it left: at the start of lent bytes, and its length; where it does not
+// fit, 0 and no byte is put down.
+pub fn run_line(m: Machine, answer: Answer, steps: u16, output: &[u16], bytes: &mut [u8]) -> usize
+    ensures { λ n. ⌜ (n ≡ lengthIn (lineOf answer steps m (now (output .entry))) (now (bytes .entry))) × (now (bytes .exit) ≡ lineIn (lineOf answer steps m (now (output .entry))) (now (bytes .entry))) ⌝ }
 {
-    let m = r.m;
-    let a = r.answer;
-    let answer = number(a);
+    let answered = number(answer);
     let sent = words_sent(m, output);
     fit_line(
         bytes,
-        answer as u32,
-        r.steps as u32,
+        answered as u32,
+        steps as u32,
         m.pc as u32,
         m.acc,
         m.ov as u32,

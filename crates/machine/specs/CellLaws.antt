@@ -2,7 +2,7 @@
 use mathlib.Core.Path.{_≡_, refl}
 use mathlib.Core.List.{List}
 use Prim.Native.Nat.{ℕ}
-use Rattle.machine.specs.declared.Stack.{Stack}
+use Rattle.stack.specs.declared.Stack.{Stack}
 use Rattle.machine.specs.declared.Machine.{Machine}
 use Rattle.machine.specs.Cells.{withStack, withAcc, withP, withT, withPc, withPfc, withAr, withArp, withArb, withDp, withPm, withOv, withOvm, withSxm, withC, withCnf, withMid, withRptc, withInputCursor, withOutputCursor}
 

@@ -4,4 +4,3 @@ pub mod Range
 pub mod Stack
 pub mod CellLaws
 pub mod RangeLaws
-pub mod StackLaws

@@ -3,9 +3,9 @@
 use mathlib.Core.Bool.{cond}
 use Prim.Native.Nat.{ℕ}
 use lib.Dec.{eqb}
-use Rattle.words.specs.Sums.{added, subtracted}
-use Rattle.words.specs.Products.{productWord, longConstant, shiftedProduct, productHigh, productLow}
-use Rattle.words.specs.Registers.{wrappedSum}
+use Rattle.sums.specs.Sums.{added, subtracted}
+use Rattle.products.specs.Products.{productWord, longConstant, shiftedProduct, productHigh, productLow}
+use Rattle.registers.specs.Registers.{wrappedSum}
 use Rattle.machine.specs.declared.Machine.{Machine}
 use Rattle.machine.specs.Cells.{withAcc, withP, withT, withPm, withPfc}
 use Rattle.passes.specs.Passes.{withSum}

@@ -2,9 +2,9 @@
 use mathlib.Core.Bool.{Bool, cond, _&&_}
 use Prim.Native.Nat.{ℕ, _-_}
 use lib.Dec.{ltb}
-use Rattle.words.specs.Registers.{wrappedSum}
+use Rattle.registers.specs.Registers.{wrappedSum}
 use Rattle.machine.specs.declared.Machine.{Machine}
-use Rattle.words.specs.declared.sums.Sum.{Sum}
+use Rattle.sums.specs.declared.Sum.{Sum}
 use Rattle.machine.specs.Cells.{withAcc, withOv, withC, withPc, withMid, withRptc}
 use Rattle.passes.specs.declared.Store.{Store}
 use Rattle.passes.specs.declared.Store.the-variants.{Nothing, Word, Move, Sent}

@@ -1,6 +1,6 @@
 // What a page's rule gives, and what follows every pass.
 use machine::Machine;
-use words::sums::Sum;
+use sums::Sum;
 ghost use mathlib.Core.Path.{_≡_};
 ghost use Rattle.passes.specs.Passes.{withSum, kept, stored, copied, sent, jumped, followed};
 
@@ -101,7 +101,7 @@ pub fn follow(m: Machine, jump: Jump, words: u16, repeatable: bool) -> Machine
     n.mid = 0;
     match jump {
         Jump::Past => {
-            n.pc = words::registers::wrapped_sum(m.pc, words);
+            n.pc = registers::wrapped_sum(m.pc, words);
             n
         }
         Jump::To(to) => {

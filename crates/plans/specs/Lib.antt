@@ -1,4 +1,2 @@
-pub mod Rows
 pub mod Pass
-pub mod PassLaws
 pub mod StoreLaws

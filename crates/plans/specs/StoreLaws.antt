@@ -37,11 +37,13 @@ use Rattle.traits.specs.Pages.{accumulatorTraits, multiplierTraits, auxiliaryTr
 use Rattle.rules.specs.declared.Words.{Words}
 use Rattle.rules.specs.Rules.{ruleOf}
 use Rattle.addressing.specs.Addressing.{addressOf}
-use Rattle.board.specs.Regions.{dataPresent, moveAllowed}
-use Rattle.board.specs.RegionLaws.{present-below, moves}
-use Rattle.plans.specs.declared.Write.{Write}
-use Rattle.plans.specs.declared.Write.the-variants as Write
-use Rattle.plans.specs.Pass.{accesses, dataAbsent, effectOf, writeOf, passedWrite}
+use Rattle.regions.specs.Regions.{dataPresent, moveAllowed}
+use Rattle.regions.specs.RegionLaws.{present-below, moves}
+use Rattle.stores.specs.declared.Write.{Write}
+use Rattle.stores.specs.declared.Write.the-variants as Write
+use Rattle.refusals.specs.Refusals.{accesses, dataAbsent}
+use Rattle.stores.specs.Stores.{writeOf}
+use Rattle.plans.specs.Pass.{effectOf, passedWrite}
 
 -- a word is stored only where the page accesses its operand
 abbrev pub StoreFits : Access → Store → Type 0

@@ -1,118 +1,29 @@
-// One pass of a decoded instruction, by value: what refuses it, what it reads and does, and its one store.
+// One pass of a decoded instruction, by value: what it reads and does, and its plan.
 use addressing::address_of;
 use addressing::after_operand;
 use answers::Answer;
 use answers::is_done;
-use board::regions;
-use board::slices;
-use board::windows;
 use instructions::Instruction;
 use machine::Machine;
 use multiplier::table_address;
-use passes::Store;
 use passes::follow;
+use refusals::pass_refusal;
 use rules::Words;
 use rules::rule;
+use stores::Write;
+use stores::write_of;
 use traits::Access;
-use traits::Port;
 use traits::Traits;
 use traits::traits_of;
 ghost use mathlib.Core.Path.{_≡_};
 ghost use lib.ListN.{getD};
-ghost use Rattle.board.specs.Regions.{dataPresent, moveAllowed};
-ghost use Rattle.board.specs.Windows.{programWord};
-ghost use Rattle.plans.specs.Pass.{accesses, wrongPort, sends, passRefusal, readWord, wordsRead, writeOf, refused, performed, passPlan};
-
-// The one store of a step. An address is that of document 01, before it is known to be on the board.
-pub enum Write {
-    Nothing,
-    Data(u32, u16),
-    Sent(u16, u16),
-}
+ghost use Rattle.windows.specs.Windows.{programWord};
+ghost use Rattle.plans.specs.Pass.{readWord, wordsRead, refused, performed, passPlan};
 
 pub struct Plan {
     pub m: Machine,
     pub answer: Answer,
     pub write: Write,
-}
-
-fn is_accessed(access: Access) -> bool
-    ensures { λ r. ⌜ r ≡ accesses access ⌝ }
-{
-    match access {
-        Access::None => false,
-        Access::Reads => true,
-        Access::Writes => true,
-    }
-}
-
-fn is_wrong_port(port: Port) -> bool
-    ensures { λ r. ⌜ r ≡ wrongPort port ⌝ }
-{
-    match port {
-        Port::None => false,
-        Port::Input(number) => number != 0,
-        Port::Output(number) => number != 1,
-    }
-}
-
-fn is_sent(port: Port) -> bool
-    ensures { λ r. ⌜ r ≡ sends port ⌝ }
-{
-    match port {
-        Port::None => false,
-        Port::Input(_) => false,
-        Port::Output(_) => true,
-    }
-}
-
-fn is_present(cnf: u8, address: u32) -> bool
-    ensures { λ r. ⌜ r ≡ dataPresent cnf address ⌝ }
-{
-    if address < 65536 {
-        return regions::data_present(cnf, address as u16);
-    }
-    false
-}
-
-fn is_movable(cnf: u8, address: u32) -> bool
-    ensures { λ r. ⌜ r ≡ moveAllowed cnf address ⌝ }
-{
-    if address < 65536 {
-        return regions::move_allowed(cnf, address as u16);
-    }
-    false
-}
-
-// The first of the last rows of the order that holds.
-fn pass_refusal(t: Traits, second: u16, output_length: usize, m: Machine) -> Answer
-    ensures { λ r. ⌜ r ≡ passRefusal t second «output_length» m ⌝ }
-{
-    let port = t.port;
-    let operand = t.operand;
-    let access = t.access;
-    let accessed = is_accessed(access);
-    let address = address_of(m, operand);
-    if is_wrong_port(port) {
-        return Answer::WrongPort;
-    }
-    if accessed & (65535 < address) {
-        return Answer::AddressAbove;
-    }
-    let absent = !is_present(m.cnf, address);
-    if accessed & absent {
-        return Answer::DataAbsent;
-    }
-    let missing = !regions::program_present(m.cnf, table_address(m, second));
-    if t.table & missing {
-        return Answer::ProgramAbsent;
-    }
-    let sent = is_sent(port);
-    let full = slices::port_spent(output_length, m.output_cursor);
-    if sent & full {
-        return Answer::OutputFull;
-    }
-    Answer::Done
 }
 
 fn word_at(data: &[u16], address: u32) -> u16
@@ -174,22 +85,6 @@ fn words_read<'a>(
         at,
         next,
         dry,
-    }
-}
-
-fn write_of(store: Store, cnf: u8, address: u32, cursor: u16) -> Write
-    ensures { λ r. ⌜ r ≡ writeOf store cnf address cursor ⌝ }
-{
-    match store {
-        Store::Nothing => Write::Nothing,
-        Store::Word(word) => Write::Data(address, word),
-        Store::Move(word) => {
-            if is_movable(cnf, address) {
-                return Write::Data(address + 1, word);
-            }
-            Write::Nothing
-        }
-        Store::Sent(word) => Write::Sent(cursor, word),
     }
 }
 

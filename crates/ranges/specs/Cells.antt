@@ -6,8 +6,9 @@ use native.Mathlib.Omega.{arith}
 use lib.ListN.{length, take, drop, getD, set, length-set}
 use Rattle.machine.specs.declared.Machine.{Machine}
 use Rattle.machine.specs.Cells.{withAcc, withP, withT, withPc, withPfc, withArp, withArb, withDp, withPm, withOv, withOvm, withSxm, withC, withCnf, withMid, withRptc, withInputCursor, withOutputCursor, withRegister}
-use Rattle.machine.specs.Stack.{pushOf, popOf, topOf, pushOn, popOn}
-use Rattle.machine.specs.StackLaws.{push-length, pop-length}
+use Rattle.stack.specs.Stack.{pushOf, popOf, topOf}
+use Rattle.machine.specs.Stack.{pushOn, popOn}
+use Rattle.stack.specs.StackLaws.{push-length, pop-length}
 use Rattle.ranges.specs.Ranges.{WordsFit}
 
 -- ---- words of lists

@@ -36,11 +36,11 @@ use Rattle.traits.specs.declared.Traits.{Traits}
 use Rattle.traits.specs.Pages.{accumulatorTraits, multiplierTraits, auxiliaryTraits, branchesTraits, transfersTraits, modesTraits, traitsOf}
 use Rattle.addressing.specs.Addressing.{moved, pointed, modified, addressed, addressOf}
 use Rattle.multiplier.specs.Pages.{tableAddress}
-use Rattle.board.specs.Regions.{inRom, inProgramB0}
-use Rattle.board.specs.Slices.{portSpent}
-use Rattle.board.specs.Windows.{windowOf, programWord}
+use Rattle.regions.specs.Regions.{inRom, inProgramB0}
+use Rattle.slices.specs.Slices.{portSpent}
+use Rattle.windows.specs.Windows.{windowOf, programWord}
 use Rattle.plans.specs.Pass.{readWord, wordsRead}
-use Rattle.emulator.specs.Table.{secondAddress, secondWord}
+use Rattle.steps.specs.Table.{secondAddress, secondWord}
 use Rattle.ranges.specs.Ranges.{WordsFit}
 use Rattle.ranges.specs.Fields.{NextFits, AddressFits, accumulatorFits, multiplierFits, auxiliaryFits, branchesFits, transfersFits, modesFits, FieldsFit}
 use Rattle.ranges.specs.Cells.{Fits, word-at, words-take, words-drop, set-arp, set-arb, set-register, cell-fits, register-fits}

@@ -9,9 +9,9 @@ use Rattle.machine.specs.Reset.{resetMachine}
 use Rattle.machine.specs.Range.{inRange}
 use Rattle.answers.specs.declared.Answer.the-variants.{Done}
 use Rattle.answers.specs.Numbers.{numberOf}
-use Rattle.board.specs.Slices.{slicesFit}
-use Rattle.emulator.specs.World.{World}
-use Rattle.emulator.specs.Step.{stepOf, runOf}
+use Rattle.slices.specs.Slices.{slicesFit}
+use Rattle.steps.specs.World.{World}
+use Rattle.steps.specs.Step.{stepOf, runOf}
 use Rattle.laws.specs.Laws.{AllDone}
 
 -- every word of a list is of 16 bits

@@ -3,8 +3,8 @@ use mathlib.Core.Path.{_≡_, refl}
 use mathlib.Core.Bool.{Bool, true, false}
 use Prim.Native.Nat.{ℕ, _%_, _^_, _<_}
 use native.Mathlib.Omega.{arith}
-use Rattle.words.specs.declared.sums.Sum.{Sum}
-use Rattle.words.specs.declared.shifts.Shifted.{Shifted}
+use Rattle.sums.specs.declared.Sum.{Sum}
+use Rattle.shifts.specs.declared.Shifted.{Shifted}
 use Rattle.machine.specs.declared.Machine.{Machine}
 use Rattle.instructions.specs.declared.Instruction.{Instruction}
 use Rattle.instructions.specs.declared.Instruction.the-variants as Family
@@ -39,7 +39,7 @@ use Rattle.passes.specs.declared.Jump.the-variants.{Past, To}
 use Rattle.passes.specs.declared.Effect.{Effect}
 use Rattle.passes.specs.Passes.{withSum, kept, stored, copied, jumped}
 use Rattle.traits.specs.Pages.{traitsOf, transfersTraits}
-use Rattle.plans.specs.Pass.{sends}
+use Rattle.refusals.specs.Refusals.{sends}
 use Rattle.rules.specs.declared.Words.{Words}
 use Rattle.rules.specs.Rules.{ruleOf}
 use Rattle.ranges.specs.Fields.{accumulatorFits, multiplierFits, auxiliaryFits, modesFits, FieldsFit}

@@ -14,12 +14,12 @@ use Rattle.answers.specs.declared.Answer.{Answer}
 use Rattle.answers.specs.declared.Answer.the-variants.{Done}
 use Rattle.answers.specs.Numbers.{numberOf}
 use Rattle.instructions.specs.declared.Decoded.{Decoded}
-use Rattle.board.specs.Slices.{memoriesFit, portFits, slicesFit}
-use Rattle.board.specs.SliceLaws.{slices-fit}
-use Rattle.plans.specs.Rows.{Row, row, firstGiven}
-use Rattle.emulator.specs.World.{World, RunOutcome}
-use Rattle.emulator.specs.Table.{decodedAt, tableFor, checksOf}
-use Rattle.emulator.specs.Step.{stepOf, runOf}
+use Rattle.slices.specs.Slices.{memoriesFit, portFits, slicesFit}
+use Rattle.slices.specs.SliceLaws.{slices-fit}
+use Rattle.refusals.specs.Rows.{Row, row, firstGiven}
+use Rattle.steps.specs.World.{World, RunOutcome}
+use Rattle.steps.specs.Table.{decodedAt, tableFor, checksOf}
+use Rattle.steps.specs.Step.{stepOf, runOf}
 use Rattle.laws.specs.Laws.{AllDone}
 use Rattle.laws.specs.Steps.{_and_, step-answer}
 use Rattle.laws.specs.Runs.{run-none, run-refused, run-done, by-first}

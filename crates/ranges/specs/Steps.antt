@@ -23,16 +23,18 @@ use Rattle.passes.specs.Passes.{destination, followed}
 use Rattle.traits.specs.declared.Traits.{Traits}
 use Rattle.traits.specs.Pages.{traitsOf}
 use Rattle.addressing.specs.Addressing.{addressOf}
-use Rattle.board.specs.Regions.{moveAllowed}
-use Rattle.board.specs.Slices.{memoriesFit, portFits, portSpent, slicesFit}
-use Rattle.board.specs.SliceLaws.{slices-fit}
-use Rattle.plans.specs.declared.Write.{Write}
-use Rattle.plans.specs.declared.Write.the-variants as Write
-use Rattle.plans.specs.Rows.{Row}
-use Rattle.plans.specs.Pass.{sends, outputFull, wordsRead, effectOf, writeOf, passedMachine, passedWrite, performed, dataAfter, outputAfter}
-use Rattle.emulator.specs.World.{World}
-use Rattle.emulator.specs.Table.{decodedAt, secondWord, tableFor}
-use Rattle.emulator.specs.Step.{stored, stepOf}
+use Rattle.regions.specs.Regions.{moveAllowed}
+use Rattle.slices.specs.Slices.{memoriesFit, portFits, portSpent, slicesFit}
+use Rattle.slices.specs.SliceLaws.{slices-fit}
+use Rattle.stores.specs.declared.Write.{Write}
+use Rattle.stores.specs.declared.Write.the-variants as Write
+use Rattle.refusals.specs.Rows.{Row}
+use Rattle.refusals.specs.Refusals.{sends, outputFull}
+use Rattle.stores.specs.Stores.{writeOf, dataAfter, outputAfter}
+use Rattle.plans.specs.Pass.{wordsRead, effectOf, passedMachine, passedWrite, performed}
+use Rattle.steps.specs.World.{World}
+use Rattle.steps.specs.Table.{decodedAt, secondWord, tableFor}
+use Rattle.steps.specs.Step.{stored, stepOf}
 use Rattle.laws.specs.Laws.{NoneHolds}
 use Rattle.laws.specs.Steps.{_and_, row-not, step-world, refused-unchanged, row-given}
 use Rattle.laws.specs.Runs.{by-first}

@@ -11,14 +11,15 @@ use lib.Signed.{shrZ}
 use borrow.Author.Tests.{ltb-true}
 use Rattle.words.specs.Word.{signed}
 use Rattle.words.specs.WordLaws.{low-lt}
-use Rattle.words.specs.declared.sums.Sum.{Sum}
-use Rattle.words.specs.declared.shifts.Shifted.{Shifted}
-use Rattle.words.specs.Sums.{holds, held, settled, carry, noBorrow, added, subtracted, inHighHalf, addedHigh, subtractedHigh, aluOutput, subtractedConditionally, negated, absolute}
-use Rattle.words.specs.Shifts.{operand, unsignedOperand, storedLow, storedHigh, leftByOne, rightByOne}
+use Rattle.sums.specs.declared.Sum.{Sum}
+use Rattle.shifts.specs.declared.Shifted.{Shifted}
+use Rattle.sums.specs.Sums.{holds, held, settled, carry, noBorrow, added, subtracted}
+use Rattle.page_sums.specs.PageSums.{inHighHalf, addedHigh, subtractedHigh, aluOutput, subtractedConditionally, negated, absolute}
+use Rattle.shifts.specs.Shifts.{operand, unsignedOperand, storedLow, storedHigh, leftByOne, rightByOne}
 use Rattle.words.specs.Logic.{bitByBit, anded, ored, xored, complemented}
-use Rattle.words.specs.Products.{productWord, scaled, shiftedProduct, productHigh, productLow}
-use Rattle.words.specs.Registers.{wrappedSum, wrappedDifference, reversedSum, reversedDifference}
-use Rattle.words.specs.RegisterLaws.{reversed-lt}
+use Rattle.products.specs.Products.{productWord, scaled, shiftedProduct, productHigh, productLow}
+use Rattle.registers.specs.Registers.{wrappedSum, wrappedDifference, reversedSum, reversedDifference}
+use Rattle.registers.specs.RegisterLaws.{reversed-lt}
 
 either : (t : Bool) {a b n : ℕ} → a < n → b < n → cond t a b < n
 either true h k = h

@@ -6,9 +6,9 @@ use lib.ListN.{replicate}
 use Rattle.machine.specs.Reset.{resetMachine}
 use Rattle.answers.specs.Numbers.{isDone}
 use Rattle.runfile.specs.Files.{Contents, readAnswer, readContents}
-use Rattle.runfile.specs.SetUp.{loaded}
-use Rattle.emulator.specs.World.{World, RunOutcome}
-use Rattle.emulator.specs.Step.{runOf}
+use Rattle.setting_up.specs.SetUp.{loaded}
+use Rattle.steps.specs.World.{World, RunOutcome}
+use Rattle.steps.specs.Step.{runOf}
 use Rattle.line.specs.Lines.{lineOf, refusedLine}
 
 -- "runs from reset with an output slice of 1,024 words"

@@ -13,7 +13,7 @@ use line::lines::run_line;
 use machine::Machine;
 use runfile::reading::head_of;
 use runfile::reading::read_answer;
-use runfile::setting_up::set_up;
+use setting_up::set_up;
 
 // An accepted file, set up in fresh slices and run from reset: its line.
 fn replay_in(
@@ -32,7 +32,9 @@ fn replay_in(
 {
     set_up(bytes, rom, data, input);
     let ran = run(Machine::reset(), rom, data, input, output, budget);
-    run_line(ran, output, line)
+    let m = ran.m;
+    let answer = ran.answer;
+    run_line(m, answer, ran.steps, output, line)
 }
 
 // A memory to be set up.

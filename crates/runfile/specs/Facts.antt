@@ -4,11 +4,8 @@ use mathlib.Core.Bool.{true}
 use mathlib.Core.List.{List}
 use Prim.Native.Nat.{ℕ, _+_, _*_, _≤_, _<_}
 use lib.ListN.{length, getD}
-use Rattle.answers.specs.Numbers.{isDone}
-use Rattle.board.specs.Facts.{MemoriesFit}
 use Rattle.runfile.specs.declared.numbers.EightNumbers.{EightNumbers}
-use Rattle.runfile.specs.Files.{Contents, fileOf, withinLimits, numbersOf, readAnswer}
-use Rattle.runfile.specs.SetUp.{Lent}
+use Rattle.runfile.specs.Files.{Contents, fileOf, withinLimits, numbersOf}
 
 -- each number of a list is below a bound: bytes below 256, words below 65,536
 pub record Below (bound : ℕ) (l : List ℕ) : Type 0 where
@@ -32,13 +29,6 @@ pub record Accepted (bytes : List ℕ) : Type 0 where
   pub head-there : 16 ≤ length bytes
   pub version-one : numbersOf bytes .version ≡ 1
   pub rules : RulesKept (numbersOf bytes) (length bytes)
-
--- set-up from a file is answered by Done
-pub record SetUpDone (bytes : List ℕ) (l : Lent) : Type 0 where
-  pub file-done : isDone (readAnswer bytes) ≡ true
-  pub file-accepted : Accepted bytes
-  pub memories : MemoriesFit (l .rom) (l .data-memory)
-  pub input-size : length (l .input) ≡ numbersOf bytes .«input_count»
 
 -- every word, and the budget, is a 16-bit number
 pub record SixteenBits (c : Contents) : Type 0 where

@@ -1,32 +1,27 @@
--- Laws of a file's tests, of what it reads as, of set-up and of writing.
-use mathlib.Core.Path.{_≡_, refl, ap, _∙_}
+-- Laws of a file's tests, of its length, and of what it reads as.
+use mathlib.Core.Path.{_≡_, refl, _∙_}
 use mathlib.Core.Bool.{Bool, true, false, _&&_, false≢true}
 use mathlib.Core.List.{List}
-use Prim.Native.Nat.{ℕ, _+_, _*_, _≤_, _<_}
+use Prim.Native.Nat.{ℕ, _+_, _*_, _≤_}
 use native.Mathlib.Omega.{arith}
-use lib.Dec.{ltb, leb, eqb}
+use lib.Dec.{ltb, eqb}
 use lib.ListN.{length, length-append}
-use lib.Seq.{sets}
-use borrow.Author.Tests.{leb-true, le-leb, eqb-true, eq-eqb, ltb-false, le-ltb, lt-leb}
+use borrow.Author.Tests.{leb-true, le-leb, eqb-true, eq-eqb, ltb-false, le-ltb}
 use Rattle.answers.specs.declared.Answer.{Answer}
-use Rattle.answers.specs.declared.Answer.the-variants.{Done, FileRules, FileNoRoom}
+use Rattle.answers.specs.declared.Answer.the-variants.{Done}
 use Rattle.answers.specs.Numbers.{isDone}
-use Rattle.board.specs.Facts.{MemoriesFit}
-use Rattle.board.specs.SliceLaws.{memories-fit}
 use Rattle.runfile.specs.declared.numbers.EightNumbers.{EightNumbers}
 use Rattle.runfile.specs.declared.reading.Head.{Head}
-use Rattle.runfile.specs.Files.{Contents, bytesOf, headWords, fileOf, fileLength, countsKept, withinLimits, numbersOf, rulesKept, readAnswer, readContents, sectionsOf, noContents, wordsAt, headOf}
-use Rattle.runfile.specs.SetUp.{Lent, lent, lentFit, setUpAnswer, memoryWith, loaded, setUp}
-use Rattle.runfile.specs.Writing.{writeAnswer, written}
-use Rattle.runfile.specs.Facts.{CountsKept, RulesKept, Accepted, SetUpDone}
-use Rattle.runfile.specs.WordLaws.{bytes-length, bytes-append, words-length, sets-append, sets-front, sets-whole, memory-length}
+use Rattle.runfile.specs.Files.{Contents, headWords, fileOf, fileLength, countsKept, numbersOf, rulesKept, readAnswer, readContents, sectionsOf, noContents, headOf}
+use Rattle.runfile.specs.Facts.{CountsKept, RulesKept, Accepted}
+use Rattle.runfile.specs.WordLaws.{bytes-length, words-length}
 
 -- the counts and the budget among the eight numbers
 abbrev countsOf : EightNumbers → Head
 countsOf n = record { «program_count» = n .«program_count»; «data_count» = n .«data_count»; «input_count» = n .«input_count»; budget = n .budget }
 
 -- the last test of a nest, and those before it
-last : (before : Bool) {test : Bool} → before && test ≡ true → (before ≡ true) × (test ≡ true)
+pub last : (before : Bool) {test : Bool} → before && test ≡ true → (before ≡ true) × (test ≡ true)
 last true h = (refl, h)
 last false h = absurd (false≢true h)
 
@@ -109,56 +104,6 @@ module _ (bytes : List ℕ) where
   unfolding headOf
   head-refused h = rw (read-refused h)
 
-  pub set-up-done : (l : Lent) → isDone (setUpAnswer bytes l) ≡ true → SetUpDone bytes l
-  unfolding setUpAnswer lentFit
-  set-up-done l h = by (isDone (readAnswer bytes)) refl (lentFit (readContents bytes) l) refl
-    where
-      by : (read : Bool) → isDone (readAnswer bytes) ≡ read → (fit : Bool) → lentFit (readContents bytes) l ≡ fit → SetUpDone bytes l
-      by false r fit f = absurd (false≢true (simp r at h))
-      by true r false f = absurd (false≢true (simp (r, f) at h))
-      by true r true f =
-          let p = last _ f in
-          record {
-            file-done = r;
-            file-accepted = accepted r;
-            memories = memories-fit _ _ (p .0);
-            input-size = eqb-true _ _ (p .1) ∙ ap (λ (c : Contents). length (c .input)) (read-done r) ∙ section-lengths .2;
-          }
-
-  pub set-up-kept : (l : Lent) → isDone (setUpAnswer bytes l) ≡ false → setUp bytes l ≡ l
-  unfolding setUp
-  set-up-kept l h = simp h
-
-  pub set-up-loaded : (l : Lent) → isDone (setUpAnswer bytes l) ≡ true → setUp bytes l ≡ loaded (sectionsOf bytes)
-  unfolding setUp
-  set-up-loaded l h = simp h (ap loaded (read-done (set-up-done l h .file-done)))
-
-  -- what was set up still fits
-  pub set-up-fits : (l : Lent) → isDone (setUpAnswer bytes l) ≡ true → MemoriesFit (setUp bytes l .rom) (setUp bytes l .data-memory)
-  unfolding loaded sectionsOf
-  set-up-fits l h =
-      let counts = set-up-done l h .file-accepted .rules .counts in
-      rw (set-up-loaded l h)
-      (record {
-        rom-size = memory-length _ _ (rw words-length (omega arith));
-        data-size = memory-length _ _ (rw words-length (omega arith));
-      })
-
-  -- each slice, once the sections are loaded
-  pub set-up-stored : (l after : Lent) → isDone (setUpAnswer bytes l) ≡ true → after ≡ loaded (sectionsOf bytes)
-      → (after .rom ≡ setUp bytes l .rom) × ((after .data-memory ≡ setUp bytes l .data-memory) × (after .input ≡ setUp bytes l .input))
-  set-up-stored l after h e = rw (set-up-loaded l h, e) (refl, (refl, refl))
-
-  pub sections-stored : (rom dataMemory input₀ input : List ℕ) (n : EightNumbers) → length input₀ ≡ numbersOf bytes .«input_count» → n ≡ numbersOf bytes
-      → rom ≡ memoryWith 0 (wordsAt bytes (n .«program_offset») (n .«program_count»))
-      → dataMemory ≡ memoryWith 0x400 (wordsAt bytes (n .«data_offset») (n .«data_count»))
-      → input ≡ sets input₀ 0 (wordsAt bytes (n .«input_offset») (n .«input_count»)) → lent rom dataMemory input ≡ loaded (sectionsOf bytes)
-  unfolding loaded sectionsOf
-  sections-stored rom dataMemory input₀ input n size e r d i =
-      let whole : length (wordsAt bytes (n .«input_offset») (n .«input_count»)) ≡ length input₀ = words-length _ _ _ ∙ rw (size, e) in
-      let stored : input ≡ wordsAt bytes (n .«input_offset») (n .«input_count») = i ∙ sets-whole _ _ whole in
-      rw (r, d, stored, e)
-
 -- what an answer's flag tells of the answer
 pub told : {flag t : Bool} {found a : Answer} → found ≡ a → flag ≡ isDone found → flag ≡ t → isDone a ≡ t
 told e f g = rw (← e, ← f) g
@@ -167,40 +112,3 @@ told e f g = rw (← e, ← f) g
 pub file-length : (c : Contents) → length (fileOf c) ≡ fileLength (length (c .program)) (length (c .data-words)) (length (c .input))
 unfolding fileOf fileLength headWords
 file-length c = bytes-length _ ∙ simp length-append (omega arith)
-
-head-length : (c : Contents) → 0 + length (bytesOf (headWords c)) ≡ 16
-unfolding headWords bytesOf
-head-length c = refl
-
--- the head and the three sections, put down one after another
-module _ (c : Contents) (l l₁ l₂ l₃ l₄ : List ℕ) where
-  pub file-put : l₁ ≡ sets l 0 (bytesOf (headWords c)) → l₂ ≡ sets l₁ 16 (bytesOf (c .program))
-      → l₃ ≡ sets l₂ (16 + 2 * length (c .program)) (bytesOf (c .data-words))
-      → l₄ ≡ sets l₃ (16 + 2 * length (c .program) + 2 * length (c .data-words)) (bytesOf (c .input)) → l₄ ≡ sets l 0 (fileOf c)
-  unfolding fileOf
-  file-put head program dataWords input =
-      rw (bytes-append (headWords c), sets-append (bytesOf (headWords c)), head-length, ← head, bytes-append (c .program), sets-append (bytesOf (c .program)), bytes-length (c .program), ← program, bytes-append (c .data-words), sets-append (bytesOf (c .data-words)), bytes-length (c .data-words), ← dataWords) input
-
-module _ (c : Contents) (bytes : List ℕ) where
-  pub write-rules : withinLimits c ≡ false → (FileRules ≡ writeAnswer c bytes) × (bytes ≡ written c bytes)
-  unfolding writeAnswer written
-  write-rules h = simp h (refl, refl)
-
-  pub write-no-room : withinLimits c ≡ true → length bytes < length (fileOf c) → (FileNoRoom ≡ writeAnswer c bytes) × (bytes ≡ written c bytes)
-  unfolding writeAnswer written
-  write-no-room h room = simp (h, lt-leb _ _ room) (refl, refl)
-
-  pub write-done : (after : List ℕ) → withinLimits c ≡ true → length (fileOf c) ≤ length bytes → after ≡ sets bytes 0 (fileOf c)
-      → (Done ≡ writeAnswer c bytes) × (after ≡ written c bytes)
-  unfolding writeAnswer written
-  write-done after h room e = simp (h, le-leb _ _ room) (refl, e ∙ sets-front (fileOf c) bytes room)
-
-  pub write-facts : writeAnswer c bytes ≡ Done → (withinLimits c ≡ true) × (length (fileOf c) ≤ length bytes)
-  unfolding writeAnswer
-  write-facts h = by (withinLimits c) refl (leb (length (fileOf c)) (length bytes)) refl
-    where
-      by : (within : Bool) → withinLimits c ≡ within → (room : Bool) → leb (length (fileOf c)) (length bytes) ≡ room
-          → (withinLimits c ≡ true) × (length (fileOf c) ≤ length bytes)
-      by false w room r = absurd (false≢true (ap isDone (simp w at h)))
-      by true w false r = absurd (false≢true (ap isDone (simp (w, r) at h)))
-      by true w true r = (w, leb-true _ _ r)

@@ -1,13 +1,12 @@
--- Laws of runs of stores, of words and their bytes, of memories, and of bounds.
-use mathlib.Core.Path.{_≡_, refl, sym, ap, _∙_}
-use mathlib.Core.List.{List, [], _∷_, _++_, append-assoc, append-nil}
-use Prim.Native.Nat.{ℕ, zero, suc, _+_, _-_, _*_, _/_, _%_, _≤_, _<_}
+-- Laws of runs of stores, of words and their bytes, and of bounds.
+use mathlib.Core.Path.{_≡_, refl, ap, _∙_}
+use mathlib.Core.List.{List, [], _∷_, _++_, append-nil}
+use Prim.Native.Nat.{ℕ, zero, suc, _+_, _*_, _/_, _%_, _≤_, _<_}
 use native.Mathlib.Omega.{arith}
 use native.Mathlib.Numerals.{add-one}
-use lib.ListN.{length, take, drop, getD, set, replicate, length-append, length-replicate, replicate-append-replicate}
-use lib.Seq.{sets, sets-eq, drop-cons, take-at, drop-at, drop-length}
+use lib.ListN.{length, take, drop, getD, set}
+use lib.Seq.{sets, sets-eq, drop-cons, drop-length}
 use Rattle.runfile.specs.Files.{bytesOf, wordAt, wordsAt}
-use Rattle.runfile.specs.SetUp.{memoryWith}
 use Rattle.runfile.specs.Facts.{Below}
 
 -- ---- runs of stores
@@ -92,40 +91,6 @@ bytes-words bytes below (suc n) at h =
     let next : suc at < length bytes = omega arith in
     let rest : at + 2 ≡ suc (suc at) = omega arith in
     rw (low, high, twice, drop-cons bytes at 0, drop-cons bytes (suc at) 0, bytes-words bytes below n (at + 2) (omega arith), rest, add-one)
-
--- ---- memories
-
-cut : (a n : ℕ) → a ≤ n → replicate {A = ℕ} n 0 ≡ replicate a 0 ++ replicate (n - a) 0
-cut a n h =
-    let e : n ≡ a + (n - a) = omega arith in
-    ap (λ (k : ℕ). replicate {A = ℕ} k 0) e ∙ sym (replicate-append-replicate {A = ℕ} a (n - a) 0)
-
-take-zeros : (a n : ℕ) → a ≤ n → take {A = ℕ} a (replicate n 0) ≡ replicate a 0
-take-zeros a n h = rw (cut a n h) (take-at (replicate {A = ℕ} a 0) (replicate (n - a) 0) a (length-replicate {A = ℕ} a 0))
-
-drop-zeros : (a n : ℕ) → a ≤ n → drop {A = ℕ} a (replicate n 0) ≡ replicate (n - a) 0
-drop-zeros a n h = rw (cut a n h) (drop-at (replicate {A = ℕ} a 0) (replicate (n - a) 0) a (length-replicate {A = ℕ} a 0))
-
-module _ (address n : ℕ) (words : List ℕ) where
-  sets-zeros : address + length words ≤ n
-      → sets (replicate n 0) address words ≡ replicate address 0 ++ (words ++ replicate (n - (address + length words)) 0)
-  sets-zeros h =
-      sets-eq words (replicate n 0) address (rw length-replicate h)
-      ∙ rw (take-zeros address n (omega arith), drop-zeros (address + length words) n h, append-assoc)
-
--- words of a file stored into a memory of 4,096 words that was cleared
-pub memory-filled : (bytes memory cleared after : List ℕ) (at count address : ℕ) → length memory ≡ 4096 → address + count ≤ 4096
-    → cleared ≡ replicate (length memory) 0 → after ≡ sets cleared address (wordsAt bytes at count) → after ≡ memoryWith address (wordsAt bytes at count)
-unfolding memoryWith
-memory-filled bytes memory cleared after at count address size fits e f =
-    let words = wordsAt bytes at count in
-    let inside : address + length words ≤ 4096 = rw (words-length bytes at count) fits in
-    rw (f, e, size) (sets-zeros address 4096 words inside)
-
--- a memory keeps its 4,096 words
-pub memory-length : (address : ℕ) (words : List ℕ) → address + length words ≤ 4096 → length (memoryWith address words) ≡ 4096
-unfolding memoryWith
-memory-length address words h = simp (length-append, length-replicate) (omega arith)
 
 -- ---- bounds
 

@@ -1,5 +1,3 @@
-// The run file: reading it, setting up lent memories from it, writing it.
-mod numbers;
+// The run file: the numbers that it begins with, and reading it.
+pub mod numbers;
 pub mod reading;
-pub mod setting_up;
-pub mod writing;

@@ -5,8 +5,8 @@ use lib.ListN.{set, replicate}
 use Rattle.machine.specs.declared.Machine.{Machine}
 use Rattle.machine.specs.Cells.{withPm, withOvm}
 use Rattle.machine.specs.Reset.{resetMachine}
-use Rattle.emulator.specs.World.{World, RunOutcome}
-use Rattle.emulator.specs.Step.{runOf}
+use Rattle.steps.specs.World.{World, RunOutcome}
+use Rattle.steps.specs.Step.{runOf}
 
 -- the table: 128 words that are all -32768 but perhaps the last
 abbrev table : ℕ → List ℕ

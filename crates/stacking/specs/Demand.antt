@@ -7,7 +7,7 @@ use Prim.Native.Nat.{ℕ, zero, suc, _+_, _%_, _^_, _≤_, _<_}
 use native.Mathlib.Omega.{arith}
 use lib.ListN.{length}
 use Rattle.words.specs.Word.{signed}
-use Rattle.words.specs.Registers.{wrappedSum}
+use Rattle.registers.specs.Registers.{wrappedSum}
 use Rattle.machine.specs.declared.Machine.{Machine}
 use Rattle.answers.specs.Numbers.{isDone}
 use Rattle.instructions.specs.declared.Instruction.{Instruction}
@@ -23,11 +23,11 @@ use Rattle.addressing.specs.Addressing.{addressed}
 use Rattle.multiplier.specs.Pages.{APAC}
 use Rattle.multiplier.specs.Rule.{multiplierRule}
 use Rattle.rules.specs.Rules.{ruleOf}
-use Rattle.board.specs.Windows.{programWord}
+use Rattle.windows.specs.Windows.{programWord}
 use Rattle.plans.specs.Pass.{effectOf, passedMachine, performed}
-use Rattle.emulator.specs.World.{World}
-use Rattle.emulator.specs.Table.{decodedAt, secondWord}
-use Rattle.emulator.specs.Step.{stored, stepOf, runOf}
+use Rattle.steps.specs.World.{World}
+use Rattle.steps.specs.Table.{decodedAt, secondWord}
+use Rattle.steps.specs.Step.{stored, stepOf, runOf}
 use Rattle.frames.specs.Frames.{Pair, Accumulation, fromZero, productAdded, passed, stacked, exactSum, Near, Words, AllLeast}
 use Rattle.frames.specs.FrameLaws.{below-128, at-128}
 use Rattle.stacking.specs.Stacking.{pairsRead, wordAhead, Sized, Stacks, lastWorld, words, Holds}

@@ -2,7 +2,7 @@
 use mathlib.Core.Path.{_≡_}
 use mathlib.Core.List.{List}
 use Prim.Native.Nat.{ℕ, suc, _≤_}
-use Rattle.emulator.specs.World.{World}
+use Rattle.steps.specs.World.{World}
 use Rattle.stacking.specs.Stacking.{Stacks, lastWorld}
 
 -- a stack of k + 1 frames that overflows

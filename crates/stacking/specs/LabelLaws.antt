@@ -8,9 +8,9 @@ use lib.Dec.{ltb}
 use lib.ListN.{getD}
 use borrow.Author.Tests.{ltb-true}
 use Rattle.words.specs.Word.{signed, low}
-use Rattle.words.specs.Sums.{holds, held, settled, carry, noBorrow, added, subtracted}
-use Rattle.words.specs.Products.{product, productWord, scaled, amountOf, shiftedProduct, productHigh, productLow}
-use Rattle.words.specs.Registers.{wrappedSum, wrappedDifference, reversed, reversedSum}
+use Rattle.sums.specs.Sums.{holds, held, settled, carry, noBorrow, added, subtracted}
+use Rattle.products.specs.Products.{product, productWord, scaled, amountOf, shiftedProduct, productHigh, productLow}
+use Rattle.registers.specs.Registers.{wrappedSum, wrappedDifference, reversed, reversedSum}
 use Rattle.machine.specs.Reset.{resetMachine}
 use Rattle.machine.specs.Range.{inRange}
 use Rattle.instructions.specs.Encoding.{lowFits, modificationOf, nextOf, indirectOf, addressOf}
@@ -24,18 +24,20 @@ use Rattle.modes.specs.Rule.{modesRule}
 use Rattle.multiplier.specs.Rule.{multiplierRule}
 use Rattle.rules.specs.Rules.{ruleOf}
 use Rattle.passes.specs.Passes.{followed, destination}
-use Rattle.board.specs.Regions.{dataRegion, dataPresent, inRom, inProgramB0, programPresent}
-use Rattle.board.specs.Slices.{memoriesFit, portFits, portSpent, slicesFit}
-use Rattle.board.specs.Windows.{windowOf, programWord}
-use Rattle.plans.specs.Rows.{firstGiven}
-use Rattle.plans.specs.Pass.{accesses, wrongPort, sends, addressAbove, dataAbsent, tableAbsent, outputFull, readWord, wordsRead, effectOf, writeOf, passedMachine, passedWrite, performed, dataAfter, outputAfter}
-use Rattle.emulator.specs.Table.{checksOf, decodedAt, secondAddress, secondWord, notRepeatable, secondAbsent, tableFor, refusalOf}
-use Rattle.emulator.specs.Step.{pagePlan, planOf, stored, stepOf, runOf}
+use Rattle.regions.specs.Regions.{dataRegion, dataPresent, inRom, inProgramB0, programPresent}
+use Rattle.slices.specs.Slices.{memoriesFit, portFits, portSpent, slicesFit}
+use Rattle.windows.specs.Windows.{windowOf, programWord}
+use Rattle.refusals.specs.Rows.{firstGiven}
+use Rattle.refusals.specs.Refusals.{accesses, wrongPort, sends, addressAbove, dataAbsent, tableAbsent, outputFull}
+use Rattle.stores.specs.Stores.{writeOf, dataAfter, outputAfter}
+use Rattle.plans.specs.Pass.{readWord, wordsRead, effectOf, passedMachine, passedWrite, performed}
+use Rattle.steps.specs.Table.{checksOf, decodedAt, secondAddress, secondWord, notRepeatable, secondAbsent, tableFor, refusalOf}
+use Rattle.steps.specs.Step.{pagePlan, planOf, stored, stepOf, runOf}
 use Rattle.instructions.specs.declared.Instruction.the-variants as Family
 use Rattle.instructions.specs.declared.Address.the-variants.{Direct}
 use Rattle.instructions.specs.declared.Modes.the-variants.{Rptk}
 use Rattle.instructions.specs.declared.Multiplier.the-variants.{Mac}
-use Rattle.emulator.specs.World.{World}
+use Rattle.steps.specs.World.{World}
 use Rattle.stacking.specs.Stacking.{wordAhead, by-rptk, by-mac, Sized, Stacks, lastWorld}
 use Rattle.stacking.specs.Demand.{demand}
 use Rattle.stacking.specs.Cases.{romWith, worldWith, runWith}

@@ -6,8 +6,8 @@ use Prim.Native.Nat.{ℕ, zero, suc, _+_, _-_, _%_, _^_, _≤_, _<_}
 use native.Mathlib.Omega.{arith}
 use native.Mathlib.Numerals.{unary-clauses}
 use lib.ListN.{length, getD, set}
-use Rattle.words.specs.Registers.{wrappedSum}
-use Rattle.words.specs.Products.{productWord}
+use Rattle.registers.specs.Registers.{wrappedSum}
+use Rattle.products.specs.Products.{productWord}
 use Rattle.machine.specs.declared.Machine.{Machine}
 use Rattle.answers.specs.Numbers.{isDone}
 use Rattle.instructions.specs.declared.Instruction.{Instruction}
@@ -28,14 +28,15 @@ use Rattle.modes.specs.Rule.{modesRule}
 use Rattle.multiplier.specs.Pages.{APAC, MAC, MACD, tableAddress}
 use Rattle.multiplier.specs.Rule.{multiplierRule}
 use Rattle.rules.specs.Rules.{ruleOf}
-use Rattle.board.specs.Regions.{inRom, inProgramB0, moveAllowed}
-use Rattle.board.specs.Windows.{windowOf, programWord}
-use Rattle.board.specs.WindowLaws.{rom-word, b0-word}
-use Rattle.plans.specs.declared.Write.the-variants as Write
-use Rattle.plans.specs.Pass.{readWord, wordsRead, effectOf, writeOf, passedMachine, passedWrite, performed, dataAfter, outputAfter}
-use Rattle.emulator.specs.World.{World}
-use Rattle.emulator.specs.Table.{decodedAt, secondWord}
-use Rattle.emulator.specs.Step.{stored, stepOf, runOf}
+use Rattle.regions.specs.Regions.{inRom, inProgramB0, moveAllowed}
+use Rattle.windows.specs.Windows.{windowOf, programWord}
+use Rattle.windows.specs.WindowLaws.{rom-word, b0-word}
+use Rattle.stores.specs.declared.Write.the-variants as Write
+use Rattle.stores.specs.Stores.{writeOf, dataAfter, outputAfter}
+use Rattle.plans.specs.Pass.{readWord, wordsRead, effectOf, passedMachine, passedWrite, performed}
+use Rattle.steps.specs.World.{World}
+use Rattle.steps.specs.Table.{decodedAt, secondWord}
+use Rattle.steps.specs.Step.{stored, stepOf, runOf}
 use Rattle.frames.specs.Frames.{Pair, Accumulation, productAdded, accumulated, passed, Every, Words}
 use Rattle.stacking.specs.Stacking.{pairFor, pairAt, pairsRead, Repeats, by-rptk, by-rpt, Accumulates, by-mac, by-macd, Sized}
 use Rattle.stacking.specs.Passing.{step-does, RunsOn, runs-on, run-ended, Alike, operand-alike, accumulationOf, Follows, followed-follows, again, goes-past, apac-works, mac-works, move-keeps}

@@ -8,9 +8,9 @@ use lib.Dec.{ltb}
 use lib.ListN.{length, getD, set}
 use lib.Seq.{getD-set-other, getD-set-same}
 use borrow.Author.Tests.{lt-ltb, le-ltb, eq-eqb}
-use Rattle.words.specs.Registers.{wrappedSum}
-use Rattle.words.specs.Sums.{added}
-use Rattle.words.specs.Products.{productWord, shiftedProduct}
+use Rattle.registers.specs.Registers.{wrappedSum}
+use Rattle.sums.specs.Sums.{added}
+use Rattle.products.specs.Products.{productWord, shiftedProduct}
 use Rattle.machine.specs.declared.Machine.{Machine}
 use Rattle.answers.specs.Numbers.{isDone}
 use Rattle.instructions.specs.declared.Instruction.{Instruction}
@@ -27,18 +27,18 @@ use Rattle.passes.specs.declared.Jump.the-variants.{Past}
 use Rattle.passes.specs.Passes.{followed, destination}
 use Rattle.addressing.specs.Addressing.{pointed, modified, addressed}
 use Rattle.multiplier.specs.Pages.{APAC, MAC}
-use Rattle.board.specs.Regions.{dataRegion, onChip, onChipRegion, moveAllowed, inRom, inProgramB0, programPresent}
-use Rattle.board.specs.declared.regions.Region.{Region}
-use Rattle.board.specs.declared.regions.Region.the-variants.{Absent, B2, B0, B1, External}
-use Rattle.board.specs.Facts.{Lies}
-use Rattle.board.specs.RegionLaws.{region-lies, moves, program-b0}
-use Rattle.board.specs.Windows.{windowOf, programWord}
-use Rattle.board.specs.WindowLaws.{rom-word, b0-word}
+use Rattle.regions.specs.Regions.{dataRegion, onChip, onChipRegion, moveAllowed, inRom, inProgramB0, programPresent}
+use Rattle.regions.specs.declared.Region.{Region}
+use Rattle.regions.specs.declared.Region.the-variants.{Absent, B2, B0, B1, External}
+use Rattle.regions.specs.RegionFacts.{Lies}
+use Rattle.regions.specs.RegionLaws.{region-lies, moves, program-b0}
+use Rattle.windows.specs.Windows.{windowOf, programWord}
+use Rattle.windows.specs.WindowLaws.{rom-word, b0-word}
 use Rattle.plans.specs.declared.Plan.{Plan}
 use Rattle.plans.specs.Pass.{performed, refused}
-use Rattle.emulator.specs.World.{World, Outcome, RunOutcome}
-use Rattle.emulator.specs.Table.{decodedAt, secondWord, refusalOf}
-use Rattle.emulator.specs.Step.{pagePlan, planOf, stored, stepOf, runOf}
+use Rattle.steps.specs.World.{World, Outcome, RunOutcome}
+use Rattle.steps.specs.Table.{decodedAt, secondWord, refusalOf}
+use Rattle.steps.specs.Step.{pagePlan, planOf, stored, stepOf, runOf}
 use Rattle.frames.specs.Frames.{Pair, Accumulation, productAdded, accumulated}
 
 -- ---- a step that is done does what its page says

@@ -6,7 +6,7 @@ use mathlib.Core.Logic.{_↔_}
 use Prim.Native.Nat.{ℕ, zero, suc, _+_, _%_, _^_, _≤_, _<_}
 use lib.ListN.{getD}
 use Rattle.words.specs.Word.{signed}
-use Rattle.words.specs.Registers.{wrappedSum}
+use Rattle.registers.specs.Registers.{wrappedSum}
 use Rattle.machine.specs.declared.Machine.{Machine}
 use Rattle.answers.specs.Numbers.{isDone}
 use Rattle.instructions.specs.declared.Instruction.{Instruction}
@@ -20,11 +20,11 @@ use Rattle.instructions.specs.Decode.{decodeOf}
 use Rattle.traits.specs.declared.Operand.the-variants.{At}
 use Rattle.traits.specs.Pages.{traitsOf}
 use Rattle.addressing.specs.Addressing.{addressOf}
-use Rattle.board.specs.Windows.{programWord}
+use Rattle.windows.specs.Windows.{programWord}
 use Rattle.plans.specs.Pass.{wordsRead}
-use Rattle.emulator.specs.World.{World, RunOutcome}
-use Rattle.emulator.specs.Table.{decodedAt, secondWord}
-use Rattle.emulator.specs.Step.{stepOf, runOf}
+use Rattle.steps.specs.World.{World, RunOutcome}
+use Rattle.steps.specs.Table.{decodedAt, secondWord}
+use Rattle.steps.specs.Step.{stepOf, runOf}
 use Rattle.frames.specs.Frames.{Pair, Near, exactSum, AllLeast}
 
 -- ---- the words that the passes read, taken from the run itself

@@ -1,7 +1,7 @@
 -- The pages of DMOV, IN and OUT. The machine is that after the operand's modification, w the data word that was read.
 use mathlib.Core.Bool.{Bool, cond}
 use Prim.Native.Nat.{ℕ}
-use Rattle.words.specs.Registers.{wrappedSum}
+use Rattle.registers.specs.Registers.{wrappedSum}
 use Rattle.machine.specs.declared.Machine.{Machine}
 use Rattle.machine.specs.Cells.{withInputCursor, withOutputCursor}
 use Rattle.passes.specs.declared.Effect.{Effect}

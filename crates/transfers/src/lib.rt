@@ -5,7 +5,6 @@ use passes::Effect;
 use passes::copy_word;
 use passes::send_word;
 use passes::store_word;
-use words::registers;
 ghost use mathlib.Core.Path.{_≡_};
 ghost use Rattle.transfers.specs.Pages.{DMOV, IN, OUT};
 ghost use Rattle.transfers.specs.Rule.{transfersRule};

@@ -1,7 +1,3 @@
-// The arithmetic of 16 and 32-bit words: what the ALU, the multiplier, the shifters and the register sums answer.
+// 16 and 32-bit words: their halves, the signed reading, and what AND, OR, XOR and CMPL make of them.
 pub mod bits;
 pub mod logic;
-pub mod products;
-pub mod registers;
-pub mod shifts;
-pub mod sums;

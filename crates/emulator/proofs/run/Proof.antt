@@ -1,69 +1,101 @@
-use mathlib.Core.Path.{sym, _∙_}
+use mathlib.Core.Path.{sym, ap, _∙_}
 use Prim.Native.Nat.{_-_}
-use borrow.Author.Needs.{needs}
+use native.Mathlib.Omega.{arith}
+use mir.Syntax.{w16}
+use borrow.Author.Needs.{needs, elem-fits-field}
 use borrow.Author.Tests.{not-true, not-false}
-use Rattle.emulator.specs.World.{stepped}
-use Rattle.emulator.specs.StepLaws.{Running, running-begins, running-goes, running-stops, running-ends}
+use Rattle.answers.specs.Numbers.{isDone}
+use Rattle.answers.specs.NumberLaws.{done-is}
+use Rattle.steps.specs.StepLaws.{running-stops}
+use Rattle.emulator.specs.Outcomes.{stepped}
+use Rattle.emulator.specs.RunLaws.{refused-run, words-fit, Going, going-begins, going-checks, going-on, going-ends}
 use Rattle.emulator.proofs.run.Statement.{statement}
 use Rattle.emulator.proofs.run.Tie as tie
 
 abbrev Inv-loop : tie.InvT-loop
 Inv-loop rom data₀ input output₀ budget n₀ steps₀ «data» output n steps =
-    Running rom input budget (record { m = n₀; «data» = data₀; output = output₀ }) (record { m = n; «data» = «data»; output = output }) steps
+    Going rom input budget (record { m = n₀; «data» = data₀; output = output₀ }) (record { m = n; «data» = «data»; output = output }) steps
 
 abbrev μ-loop : tie.MeasureT-loop
 μ-loop rom data₀ input output₀ budget n₀ steps₀ «data» output n steps = budget - steps
 
-loop-holds : tie.Need-loop-holds Inv-loop μ-loop
-loop-holds c = running-begins _ _ _ _
-
 check-requires : tie.Need-check-requires Inv-loop μ-loop
-check-requires c κs = search needs
-
-step-requires : tie.Need-step-requires Inv-loop μ-loop
-step-requires c κs = search needs
+check-requires c κs = tt
 
 is-done-requires : tie.Need-is-done-requires Inv-loop μ-loop
-is-done-requires c κs = search needs
+is-done-requires c κs = tt
+
+same-length : tie.Need-same-length Inv-loop μ-loop
+same-length c = search needs
+
+returns : tie.Need-returns Inv-loop μ-loop
+returns c =
+    rw (c .before .before .check .ensures) (sym (refused-run _ _ _ _ (sym (ap isDone (c .before .before .check .ensures)) ∙ (sym (c .before .is-done .ensures) ∙ not-true _ (c .if1 .taken)))))
+
+loop-holds : tie.Need-loop-holds Inv-loop μ-loop
+loop-holds c =
+    going-begins _ _ _ _
+    (sym (c .before .before .check .ensures) ∙ done-is _ (sym (c .before .is-done .ensures) ∙ not-false _ (c .if1 .left)))
+    (record {
+      acc = search needs;
+      p = search needs;
+      t = search needs;
+      pc = search needs;
+      pfc = search needs;
+      ar = words-fit (c .before .before .before .before .before .before .before .before .args .m .ar) (λ i. elem-fits-field w16 w16 (c .before .before .before .before .before .before .before .before .args .m .ar) (c .before .before .before .before .before .before .before .before .good .0 .1 .1 .1 .1 .1 .1 .1 .1 .0 .0) i (c .before .before .before .before .before .before .before .before .good .0 .1 .1 .1 .1 .1 .1 .1 .1 .0 .1 .1) tt .fits);
+      ar-count = search needs;
+      stack = words-fit (c .before .before .before .before .before .before .before .before .args .m .stack .words) (λ i. elem-fits-field w16 w16 (c .before .before .before .before .before .before .before .before .args .m .stack .words) (c .before .before .before .before .before .before .before .before .good .0 .1 .1 .0 .1 .1 .0 .0) i (c .before .before .before .before .before .before .before .before .good .0 .1 .1 .0 .1 .1 .0 .1 .1) tt .fits);
+      stack-count = search needs;
+    })
+    (words-fit (c .before .before .before .before .before .before .before .before .args .rom .now) (λ i. c .before .before .before .before .before .before .before .shared-slice-known .given i .fits))
+    (words-fit (c .before .before .before .before .before .before .before .before .args .input .now) (λ i. c .before .before .before .before .before .shared-slice-known2 .given i .fits))
+    (words-fit (c .before .before .before .before .before .before .before .before .args .«data» .now) (λ i. c .before .before .before .before .before .before .slice-known .given i .fits))
+    (words-fit (c .before .before .before .before .before .before .before .before .args .output .now) (λ i. c .before .before .before .before .slice-known2 .given i .fits))
+
+checked-step-requires : tie.Need-checked-step-requires Inv-loop μ-loop
+checked-step-requires c κs = going-checks _ _ _ _ _ _ (c .before .before .before .loop .inv)
+
+is-done-requires-2 : tie.Need-is-done-requires-2 Inv-loop μ-loop
+is-done-requires-2 c κs = tt
 
 add-steps : tie.Need-add-steps Inv-loop μ-loop
-add-steps c = search needs
+add-steps c = omega (arith, c .before .before .before .before .before .before .before .before .before .before .if2 .left, c .before .before .before .before .before .before .before .before .before .before .before .before .before .before .before .before .before .before .before .before .fits .budget)
 
 loop-less : tie.Need-loop-less Inv-loop μ-loop
 loop-less c = search needs
 
 loop-again : tie.Need-loop-again Inv-loop μ-loop
 loop-again c =
-    running-goes _ _ _ _ _ _ (c .before .before .before .before .before .before .before .before .before .before .before .loop .inv)
-    (stepped (c .before .before .before .before .before .before .before .step .result) (c .before .before .before .before .before .before .before .step .last .1 .1 .0) (c .before .before .before .before .before .before .before .step .last .1 .1 .1 .1 .0))
-    (c .before .before .before .before .before .before .before .step .ensures)
-    (c .before .before .before .before .before .before .before .before .before .before .if1 .left)
-    (sym (c .before .before .is-done .ensures) ∙ not-false _ (c .before .if2 .left))
-    (c .before .before .before .before .before .before .before .step .kept .1 .1 .0)
-    (c .before .before .before .before .before .before .before .step .kept .1 .1 .1 .1 .0)
-
-same-length : tie.Need-same-length Inv-loop μ-loop
-same-length c = search needs
+    going-on _ _ _ _ _ _ (c .before .before .before .before .before .before .before .before .before .before .before .loop .inv)
+    (stepped (c .before .before .before .before .before .before .before .checked-step .result) (c .before .before .before .before .before .before .before .checked-step .last .1 .1 .0) (c .before .before .before .before .before .before .before .checked-step .last .1 .1 .1 .1 .0))
+    (c .before .before .before .before .before .before .before .checked-step .ensures)
+    (c .before .before .before .before .before .before .before .before .before .before .if2 .left)
+    (sym (c .before .before .is-done2 .ensures) ∙ not-false _ (c .before .if3 .left))
+    (c .before .before .before .before .before .before .before .checked-step .kept .1 .1 .0)
+    (c .before .before .before .before .before .before .before .checked-step .kept .1 .1 .1 .1 .0)
 
 same-length-2 : tie.Need-same-length-2 Inv-loop μ-loop
 same-length-2 c = search needs
 
-returns : tie.Need-returns Inv-loop μ-loop
-returns c = rw (c .check .ensures) (running-ends _ _ _ _ _ _ (c .before .before .before .loop .inv) (c .before .before .if1 .taken))
-
 same-length-3 : tie.Need-same-length-3 Inv-loop μ-loop
 same-length-3 c = search needs
+
+returns-2 : tie.Need-returns-2 Inv-loop μ-loop
+returns-2 c = going-ends _ _ _ _ _ _ (c .before .loop .inv) (c .if2 .taken)
 
 same-length-4 : tie.Need-same-length-4 Inv-loop μ-loop
 same-length-4 c = search needs
 
-returns-2 : tie.Need-returns-2 Inv-loop μ-loop
-returns-2 c =
-    running-stops _ _ _ _ _ _ (c .before .before .before .before .before .before .before .before .before .before .before .loop .inv)
-    (stepped (c .before .before .before .before .before .before .before .step .result) (c .before .before .before .before .before .before .before .step .last .1 .1 .0) (c .before .before .before .before .before .before .before .step .last .1 .1 .1 .1 .0))
-    (c .before .before .before .before .before .before .before .step .ensures)
-    (c .before .before .before .before .before .before .before .before .before .before .if1 .left)
-    (sym (c .before .before .is-done .ensures) ∙ not-true _ (c .before .if2 .taken))
+same-length-5 : tie.Need-same-length-5 Inv-loop μ-loop
+same-length-5 c = search needs
+
+returns-3 : tie.Need-returns-3 Inv-loop μ-loop
+returns-3 c =
+    running-stops _ _ _ _ _ _ (c .before .before .before .before .before .before .before .before .before .before .before .loop .inv .running)
+    (stepped (c .before .before .before .before .before .before .before .checked-step .result) (c .before .before .before .before .before .before .before .checked-step .last .1 .1 .0) (c .before .before .before .before .before .before .before .checked-step .last .1 .1 .1 .1 .0))
+    (c .before .before .before .before .before .before .before .checked-step .ensures)
+    (c .before .before .before .before .before .before .before .before .before .before .if2 .left)
+    (sym (c .before .before .is-done2 .ensures) ∙ not-true _ (c .before .if3 .taken))
 
 pub run-spec : {M : Type 1} → statement M
 run-spec =
@@ -71,16 +103,19 @@ run-spec =
     (tie.spec
     Inv-loop
     μ-loop
-    loop-holds
     check-requires
-    step-requires
     is-done-requires
+    same-length
+    returns
+    loop-holds
+    checked-step-requires
+    is-done-requires-2
     add-steps
     loop-less
     loop-again
-    same-length
     same-length-2
-    returns
     same-length-3
+    returns-2
     same-length-4
-    returns-2)
+    same-length-5
+    returns-3)

@@ -1,4 +1,8 @@
-use mathlib.Core.Path.{refl}
+use mathlib.Core.Path.{ap, sym, refl}
+use Prim.Native.Nat.{ℕ, _%_}
+use Rattle.instructions.specs.declared.Address.{Address}
+use Rattle.instructions.specs.declared.Modes.the-variants.{Rpt, Rptk}
+use Rattle.instructions.specs.Encoding.{modes}
 use Rattle.instructions.specs.Places.{page-means}
 use Rattle.meanings.proofs.LastKey.{last-key}
 use native.Mathlib.Nat.{div-one}
@@ -16,10 +20,10 @@ cast-t8 : tie.Need-cast-t8
 cast-t8 c = search needs
 
 returns : tie.Need-returns
-returns c = rw (c .match .keys1) (page-means _ _ _ (rw (← c .before .address-of .ensures)))
+returns c = rw (c .match .keys1) (page-means _ _ _ (ap (λ (a : Address). modes (Rpt a)) (c .before .address-of .ensures)))
 
 returns-2 : tie.Need-returns-2
-returns-2 c = rw (c .match .keys2) (page-means _ _ _ (rw (div-one (c .before .before .args .w))))
+returns-2 c = rw (c .match .keys2) (page-means _ _ _ (ap (λ (n : ℕ). modes (Rptk (n % 256))) (sym (div-one (c .before .before .args .w)))))
 
 returns-3 : tie.Need-returns-3
 returns-3 c = rw (c .match .keys3) (page-means _ _ _ refl)

@@ -18,17 +18,14 @@ cast-fit-line-2 c = search needs
 cast-fit-line-3 : tie.Need-cast-fit-line-3
 cast-fit-line-3 c = search needs
 
-cast-fit-line-4 : tie.Need-cast-fit-line-4
-cast-fit-line-4 c = search needs
-
 fit-line-requires : tie.Need-fit-line-requires
-fit-line-requires c κs = rw (c .before .before .before .before .words-sent .ensures) (sent-most _ _)
+fit-line-requires c κs = rw (c .before .before .before .words-sent .ensures) (sent-most _ _)
 
 same-length : tie.Need-same-length
 same-length c = search needs
 
 returns : tie.Need-returns
-returns c = rw (line-of, ← c .before .before .before .before .before .before .before .words-sent .ensures, ← c .before .before .before .before .before .before .before .before .number .ensures) (c .before .before .fit-line .ensures)
+returns c = rw (line-of, ← c .before .before .before .before .before .before .words-sent .ensures, ← c .before .before .before .before .before .before .before .number .ensures) (c .before .before .fit-line .ensures)
 
 pub run-line-spec : {M : Type 1} → statement M
 run-line-spec =
@@ -39,7 +36,6 @@ run-line-spec =
     cast-fit-line
     cast-fit-line-2
     cast-fit-line-3
-    cast-fit-line-4
     fit-line-requires
     same-length
     returns)

@@ -1,0 +1,25 @@
+use Rattle.steps.specs.Step.{stepOf, stored}
+use Rattle.emulator.specs.RunLaws.{checked-plan, checked-fits}
+use borrow.Author.Needs.{needs}
+use Rattle.emulator.proofs.checked_step.Statement.{statement}
+use Rattle.emulator.proofs.checked_step.Tie as tie
+
+plan-fetched-requires : tie.Need-plan-fetched-requires
+plan-fetched-requires c κs = search needs
+
+commit-requires : tie.Need-commit-requires
+commit-requires c κs = rw (c .before .before .before .plan-fetched .ensures) (checked-fits _ _ _ _ _ (c .before .before .before .before .before .before .before .before .before .pre))
+
+same-length : tie.Need-same-length
+same-length c = search needs
+
+same-length-2 : tie.Need-same-length-2
+same-length-2 c = search needs
+
+returns : tie.Need-returns
+unfolding stepOf stored
+returns c = rw (checked-plan _ _ _ _ _ (c .before .before .before .before .before .before .before .before .before .before .before .before .before .before .pre), ← c .before .before .before .before .before .before .before .before .plan-fetched .ensures, c .before .before .before .before .commit .ensures .0, c .before .before .before .before .commit .ensures .1)
+
+pub checked-step-spec : {M : Type 1} → statement M
+checked-step-spec =
+    tie.close (tie.spec plan-fetched-requires commit-requires same-length same-length-2 returns)

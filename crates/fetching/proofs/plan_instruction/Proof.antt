@@ -1,0 +1,63 @@
+use borrow.Author.Tests.{eq-eqb, ne-eqb}
+use Rattle.steps.specs.Stages.{instructionPlan}
+use Rattle.steps.specs.Table.{notRepeatable, secondAbsent, secondWord, secondAddress}
+use borrow.Author.Needs.{needs}
+use Rattle.fetching.proofs.plan_instruction.Statement.{statement}
+use Rattle.fetching.proofs.plan_instruction.Tie as tie
+
+traits-of-requires : tie.Need-traits-of-requires
+traits-of-requires c κs = search needs
+
+refuse-requires : tie.Need-refuse-requires
+refuse-requires c κs = search needs
+
+returns : tie.Need-returns
+unfolding instructionPlan notRepeatable secondAbsent secondWord secondAddress
+returns c = rw (c .refuse .ensures, ← c .before .before .before .before .traits-of .ensures, c .before .if1 .taken)
+
+wrapped-sum-requires : tie.Need-wrapped-sum-requires
+wrapped-sum-requires c κs = search needs
+
+program-present-requires : tie.Need-program-present-requires
+program-present-requires c κs = search needs
+
+refuse-requires-2 : tie.Need-refuse-requires-2
+refuse-requires-2 c κs = search needs
+
+returns-2 : tie.Need-returns-2
+unfolding instructionPlan notRepeatable secondAbsent secondWord secondAddress
+returns-2 c = rw (c .refuse2 .ensures, ← c .before .before .before .before .before .before .before .before .before .traits-of .ensures, ← c .before .before .before .wrapped-sum .ensures, ← c .before .before .program-present .ensures, c .before .before .before .before .before .before .if1 .left, eq-eqb _ _ (c .before .before .before .before .if2 .taken), c .before .if3 .taken)
+
+program-word-requires : tie.Need-program-word-requires
+program-word-requires c κs = search needs
+
+plan-pass-requires : tie.Need-plan-pass-requires
+plan-pass-requires c κs = search needs
+
+returns-3 : tie.Need-returns-3
+unfolding instructionPlan notRepeatable secondAbsent secondWord secondAddress
+returns-3 c = rw (c .plan-pass .ensures, c .before .program-word .ensures, ← c .before .before .before .before .before .before .before .before .before .before .traits-of .ensures, ← c .before .before .before .before .wrapped-sum .ensures, ← c .before .before .before .program-present .ensures, c .before .before .before .before .before .before .before .if1 .left, eq-eqb _ _ (c .before .before .before .before .before .if2 .taken), c .before .before .if3 .left)
+
+plan-pass-requires-2 : tie.Need-plan-pass-requires-2
+plan-pass-requires-2 c κs = search needs
+
+returns-4 : tie.Need-returns-4
+unfolding instructionPlan notRepeatable secondAbsent secondWord secondAddress
+returns-4 c = rw (c .plan-pass2 .ensures, ← c .before .before .before .before .before .before .traits-of .ensures, c .before .before .before .if1 .left, ne-eqb _ _ (c .before .if2 .left))
+
+pub plan-instruction-spec : {M : Type 1} → statement M
+plan-instruction-spec =
+    tie.close
+    (tie.spec
+    traits-of-requires
+    refuse-requires
+    returns
+    wrapped-sum-requires
+    program-present-requires
+    refuse-requires-2
+    returns-2
+    program-word-requires
+    plan-pass-requires
+    returns-3
+    plan-pass-requires-2
+    returns-4)

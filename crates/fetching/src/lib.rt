@@ -1,0 +1,86 @@
+// From a machine that has passed checks 1 and 2 to the plan of its step: answers 5, 3, 4, 7 and 5 for the second word, then the pass.
+use answers::Answer;
+use decoder::decode;
+use instructions::Decoded;
+use instructions::Instruction;
+use machine::Machine;
+use plans::Plan;
+use plans::plan_pass;
+use plans::program_word;
+use stores::Write;
+use traits::traits_of;
+ghost use mathlib.Core.Path.{_≡_};
+ghost use Rattle.plans.specs.Pass.{refused};
+ghost use Rattle.steps.specs.Stages.{instructionPlan, decodedPlan, fetchPlan};
+
+fn refuse(m: Machine, answer: Answer) -> Plan
+    ensures { λ r. ⌜ r ≡ refused m answer ⌝ }
+{
+    Plan {
+        m,
+        answer,
+        write: Write::Nothing,
+    }
+}
+
+// An instruction of the base: answers 7 and 5 for the second word, then the pass.
+fn plan_instruction<'a>(
+    i: Instruction,
+    rom: &'a [u16],
+    data: &'a [u16],
+    input: &[u16],
+    output_length: usize,
+    m: Machine,
+) -> Plan
+    ensures { λ r. ⌜ r ≡ instructionPlan i (now (rom .entry)) (now («data» .entry)) (now (input .entry)) «output_length» m ⌝ }
+{
+    let t = traits_of(i);
+    let fixed = !t.repeatable;
+    if (0 < m.rptc) & fixed {
+        return refuse(m, Answer::NotRepeatable);
+    }
+    if t.words == 2 {
+        let at = registers::wrapped_sum(m.pc, 1);
+        if !regions::program_present(m.cnf, at) {
+            return refuse(m, Answer::ProgramAbsent);
+        }
+        let second = program_word(m.cnf, at, rom, data);
+        return plan_pass(i, second, rom, data, input, output_length, m);
+    }
+    plan_pass(i, 0, rom, data, input, output_length, m)
+}
+
+// Answers 3 and 4, then the instruction.
+fn plan_decoded<'a>(
+    d: Decoded,
+    rom: &'a [u16],
+    data: &'a [u16],
+    input: &[u16],
+    output_length: usize,
+    m: Machine,
+) -> Plan
+    ensures { λ r. ⌜ r ≡ decodedPlan d (now (rom .entry)) (now («data» .entry)) (now (input .entry)) «output_length» m ⌝ }
+{
+    match d {
+        Decoded::Base(i) => plan_instruction(i, rom, data, input, output_length, m),
+        Decoded::Published => refuse(m, Answer::NotInBase),
+        Decoded::Nothing => refuse(m, Answer::NoEncoding),
+    }
+}
+
+// Answer 5 for the first word, then what it decodes to.
+pub fn plan_fetched<'a>(
+    rom: &'a [u16],
+    data: &'a [u16],
+    input: &[u16],
+    output_length: usize,
+    m: Machine,
+) -> Plan
+    ensures { λ r. ⌜ r ≡ fetchPlan (now (rom .entry)) (now («data» .entry)) (now (input .entry)) «output_length» m ⌝ }
+{
+    if !regions::program_present(m.cnf, m.pc) {
+        return refuse(m, Answer::ProgramAbsent);
+    }
+    let word = program_word(m.cnf, m.pc, rom, data);
+    plan_decoded(decode(word), rom, data, input, output_length, m)
+}

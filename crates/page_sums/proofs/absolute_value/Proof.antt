@@ -1,0 +1,17 @@
+use native.Mathlib.Omega.{arith}
+use Rattle.page_sums.specs.PageSumLaws.{absolute-same, absolute-negated}
+use borrow.Author.Needs.{needs}
+use Rattle.page_sums.proofs.absolute_value.Statement.{statement}
+use Rattle.page_sums.proofs.absolute_value.Tie as tie
+
+returns : tie.Need-returns
+returns c = absolute-same _ _ _ (omega arith)
+
+negate-requires : tie.Need-negate-requires
+negate-requires c κs = search needs
+
+returns-2 : tie.Need-returns-2
+returns-2 c = rw (c .negate .ensures) (absolute-negated _ _ _ (omega arith) (omega arith))
+
+pub absolute-value-spec : {M : Type 1} → statement M
+absolute-value-spec = tie.close (tie.spec returns negate-requires returns-2)

@@ -1,0 +1,19 @@
+use Rattle.page_sums.specs.PageSumLaws.{add-high-sets, add-high-keeps}
+use borrow.Author.Needs.{needs}
+use Rattle.page_sums.proofs.add_high.Statement.{statement}
+use Rattle.page_sums.proofs.add_high.Tie as tie
+
+in-high-half-requires : tie.Need-in-high-half-requires
+in-high-half-requires c κs = search needs
+
+add-requires : tie.Need-add-requires
+add-requires c κs = search needs
+
+returns : tie.Need-returns
+returns c = rw (c .before .before .add .ensures, c .before .before .before .in-high-half .ensures) (add-high-sets _ _ _ _ _ (rw (c .before .before .add .ensures, c .before .before .before .in-high-half .ensures) at (c .if1 .taken)))
+
+returns-2 : tie.Need-returns-2
+returns-2 c = rw (c .before .before .add .ensures, c .before .before .before .in-high-half .ensures) (add-high-keeps _ _ _ _ _ (rw (c .before .before .add .ensures, c .before .before .before .in-high-half .ensures) at (c .if1 .left)))
+
+pub add-high-spec : {M : Type 1} → statement M
+add-high-spec = tie.close (tie.spec in-high-half-requires add-requires returns returns-2)

@@ -1,0 +1,14 @@
+use mathlib.Core.Path.{_∙_}
+use Rattle.page_sums.specs.PageSumLaws.{negated-is}
+use borrow.Author.Needs.{needs}
+use Rattle.page_sums.proofs.negate.Statement.{statement}
+use Rattle.page_sums.proofs.negate.Tie as tie
+
+subtract-requires : tie.Need-subtract-requires
+subtract-requires c κs = search needs
+
+returns : tie.Need-returns
+returns c = c .subtract .ensures ∙ negated-is _ _ _
+
+pub negate-spec : {M : Type 1} → statement M
+negate-spec = tie.close (tie.spec subtract-requires returns)

@@ -1,0 +1,4 @@
+-- definitions
+pub mod PageSums
+-- laws
+pub mod PageSumLaws

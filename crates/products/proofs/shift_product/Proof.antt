@@ -1,0 +1,20 @@
+use mathlib.Core.Path.{_∙_}
+use native.Mathlib.Omega.{arith}
+use Rattle.products.specs.Products.{shiftedProduct}
+use Rattle.products.specs.ProductLaws.{amount-le}
+use borrow.Author.Needs.{needs}
+use Rattle.products.proofs.shift_product.Statement.{statement}
+use Rattle.products.proofs.shift_product.Tie as tie
+
+amount-requires : tie.Need-amount-requires
+amount-requires c κs = search needs
+
+scale-requires : tie.Need-scale-requires
+scale-requires c κs = omega (arith, c .amount .ensures, amount-le (c .before .args .pm))
+
+returns : tie.Need-returns
+unfolding shiftedProduct
+returns c = c .scale .ensures ∙ rw (c .before .amount .ensures)
+
+pub shift-product-spec : {M : Type 1} → statement M
+shift-product-spec = tie.close (tie.spec amount-requires scale-requires returns)

@@ -1,0 +1,4 @@
+-- definitions
+pub mod Products
+-- laws
+pub mod ProductLaws

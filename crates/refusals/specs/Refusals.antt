@@ -1,0 +1,62 @@
+-- What refuses a pass of an instruction, decoded, with its second word.
+use mathlib.Core.Bool.{Bool, true, false, not, _&&_}
+use mathlib.Core.List.{[], _∷_}
+use Prim.Native.Nat.{ℕ}
+use lib.Dec.{ltb, eqb}
+use Rattle.machine.specs.declared.Machine.{Machine}
+use Rattle.answers.specs.declared.Answer.{Answer}
+use Rattle.answers.specs.declared.Answer.the-variants.{ProgramAbsent, WrongPort, AddressAbove, DataAbsent, OutputFull}
+use Rattle.traits.specs.declared.Access.{Access}
+use Rattle.traits.specs.declared.Access.the-variants as Access
+use Rattle.traits.specs.declared.Port.{Port}
+use Rattle.traits.specs.declared.Port.the-variants as Port
+use Rattle.traits.specs.declared.Traits.{Traits}
+use Rattle.addressing.specs.Addressing.{addressOf}
+use Rattle.multiplier.specs.Pages.{tableAddress}
+use Rattle.regions.specs.Regions.{dataPresent, programPresent}
+use Rattle.slices.specs.Slices.{portSpent}
+use Rattle.refusals.specs.Rows.{row, firstGiven}
+
+-- the addressed data word is read or written
+unfoldable pub accesses : Access → Bool
+accesses Access.None = false
+accesses Access.Reads = true
+accesses Access.Writes = true
+
+-- "IN from a port other than 0, OUT to one other than 1"
+unfoldable pub wrongPort : Port → Bool
+wrongPort Port.None = false
+wrongPort (Port.Input port) = not (eqb port 0)
+wrongPort (Port.Output port) = not (eqb port 1)
+
+unfoldable pub sends : Port → Bool
+sends Port.None = false
+sends (Port.Input port) = false
+sends (Port.Output port) = true
+
+-- "a direct address above 65,535"; an indirect one is a register's
+unfoldable pub addressAbove : Traits → Machine → Bool
+addressAbove t m = accesses (t .access) && ltb 65535 (addressOf (t .operand) m)
+
+-- "data address read or written is absent"
+unfoldable pub dataAbsent : Traits → Machine → Bool
+dataAbsent t m = accesses (t .access) && not (dataPresent (m .cnf) (addressOf (t .operand) m))
+
+-- "program address absent", of a MAC or MACD table word
+unfoldable pub tableAbsent : Traits → ℕ → Machine → Bool
+tableAbsent t second m = t .table && not (programPresent (m .cnf) (tableAddress m second))
+
+-- "OUT with the output slice full"
+unfoldable pub outputFull : Traits → ℕ → Machine → Bool
+outputFull t outputLength m = sends (t .port) && portSpent outputLength (m .«output_cursor»)
+
+-- the last rows of the order: "9, 8, 6, 5 for a MAC or MACD table word, 10"
+unfoldable pub passRefusal : Traits → ℕ → ℕ → Machine → Answer
+passRefusal t second outputLength m =
+    firstGiven
+    (row WrongPort (wrongPort (t .port))
+    ∷ row AddressAbove (addressAbove t m)
+    ∷ row DataAbsent (dataAbsent t m)
+    ∷ row ProgramAbsent (tableAbsent t second m)
+    ∷ row OutputFull (outputFull t outputLength m)
+    ∷ [])

@@ -1,0 +1,26 @@
+use Rattle.regions.specs.Regions.{dataRegion}
+use Rattle.regions.proofs.data_region.Statement.{statement}
+use Rattle.regions.proofs.data_region.Tie as tie
+
+returns : tie.Need-returns
+unfolding dataRegion
+returns c = simp (c .if1 .taken)
+
+returns-2 : tie.Need-returns-2
+unfolding dataRegion
+returns-2 c = simp (c .before .if1 .left, c .if2 .taken)
+
+returns-3 : tie.Need-returns-3
+unfolding dataRegion
+returns-3 c = simp (c .before .before .if1 .left, c .before .if2 .left, c .if3 .taken)
+
+returns-4 : tie.Need-returns-4
+unfolding dataRegion
+returns-4 c = simp (c .before .before .before .if1 .left, c .before .before .if2 .left, c .before .if3 .left, c .if4 .taken)
+
+returns-5 : tie.Need-returns-5
+unfolding dataRegion
+returns-5 c = simp (c .before .before .before .if1 .left, c .before .before .if2 .left, c .before .if3 .left, c .if4 .left)
+
+pub data-region-spec : {M : Type 1} → statement M
+data-region-spec = tie.close (tie.spec returns returns-2 returns-3 returns-4 returns-5)

@@ -1,0 +1,94 @@
+-- Where the addresses of each region lie; B0 is never in both spaces; a data move stays on chip.
+use mathlib.Core.Path.{_≡_, refl, subst}
+use mathlib.Core.Bool.{Bool, true, false, cond, _&&_, false≢true}
+use Prim.Native.Nat.{ℕ, _+_, _≤_, _<_}
+use native.Mathlib.Omega.{arith}
+use borrow.Author.Tests.{leb-true, ltb-true, eqb-true}
+use Rattle.regions.specs.declared.Region.{Region}
+use Rattle.regions.specs.declared.Region.the-variants.{Absent, B2, B0, B1, External}
+use Rattle.regions.specs.Regions.{within, dataRegion, present, onChipRegion, dataPresent, onChip, moveAllowed, inRom, inProgramB0, programPresent}
+use Rattle.regions.specs.RegionFacts.{Lies, Moves, InProgramB0}
+
+pub both : (t u : Bool) → t && u ≡ true → (t ≡ true) × (u ≡ true)
+both true u h = (refl, h)
+both false u h = absurd (false≢true h)
+
+bounds : (first last a : ℕ) → within first last a ≡ true → (first ≤ a) × (a ≤ last)
+bounds first last a h = let p = both _ _ h in (leb-true _ _ (p .0), leb-true _ _ (p .1))
+
+case : (P : Region → Type 0) (t : Bool) (x rest : Region) → (t ≡ true → P x) → P rest → P (cond t x rest)
+case P true x rest f r = f refl
+case P false x rest f r = r
+
+pub region-lies : (cnf a : ℕ) → Lies cnf a (dataRegion cnf a)
+unfolding dataRegion
+region-lies cnf a =
+    case (Lies cnf a) _ B2 _ (bounds 0x60 0x7F a)
+    (case (Lies cnf a) _ B0 _ (λ h. let p = both (within 0x200 0x2FF a) _ h in let b = bounds 0x200 0x2FF a (p .0) in (b .0, b .1, eqb-true _ _ (p .1)))
+    (case (Lies cnf a) _ B1 _ (bounds 0x300 0x3FF a)
+    (case (Lies cnf a) _ External Absent (bounds 0x400 0xFFF a) tt)))
+
+lies-below : (cnf a : ℕ) (r : Region) → Lies cnf a r → present r ≡ true → a < 4096
+lies-below cnf a Absent l h = absurd (false≢true h)
+lies-below cnf a B2 l h = omega arith
+lies-below cnf a B0 l h = omega arith
+lies-below cnf a B1 l h = omega arith
+lies-below cnf a External l h = omega arith
+
+-- every address that is there is a word of the data slice
+pub present-below : (cnf a : ℕ) → dataPresent cnf a ≡ true → a < 4096
+unfolding dataPresent
+present-below cnf a h = lies-below cnf a (dataRegion cnf a) (region-lies cnf a) h
+
+lies-on-chip : (cnf a : ℕ) (r : Region) → Lies cnf a r → onChipRegion r ≡ true → a < 1024
+lies-on-chip cnf a Absent l h = absurd (false≢true h)
+lies-on-chip cnf a B2 l h = omega arith
+lies-on-chip cnf a B0 l h = omega arith
+lies-on-chip cnf a B1 l h = omega arith
+lies-on-chip cnf a External l h = absurd (false≢true h)
+
+chip-is-present : (r : Region) → onChipRegion r ≡ true → present r ≡ true
+chip-is-present Absent h = h
+chip-is-present B2 h = refl
+chip-is-present B0 h = refl
+chip-is-present B1 h = refl
+chip-is-present External h = refl
+
+pub on-chip-present : (cnf a : ℕ) → onChip cnf a ≡ true → dataPresent cnf a ≡ true
+unfolding onChip dataPresent
+on-chip-present cnf a h = chip-is-present (dataRegion cnf a) h
+
+pub on-chip-below : (cnf a : ℕ) → onChip cnf a ≡ true → a < 1024
+unfolding onChip
+on-chip-below cnf a h = lies-on-chip cnf a (dataRegion cnf a) (region-lies cnf a) h
+
+-- a data move that is made reads and writes addresses on chip
+pub moves : (cnf a : ℕ) → moveAllowed cnf a ≡ true → Moves cnf a
+unfolding moveAllowed
+moves cnf a h =
+    let p = both (onChip cnf a) _ h in
+    record { from = p .0; to = p .1; below = on-chip-below cnf (a + 1) (p .1) }
+
+pub rom-below : (a : ℕ) → inRom a ≡ true → a < 4096
+unfolding inRom
+rom-below a h = ltb-true _ _ h
+
+pub program-b0 : (cnf a : ℕ) → inProgramB0 cnf a ≡ true → InProgramB0 cnf a
+unfolding inProgramB0
+program-b0 cnf a h =
+    let p = both (within 0xFF00 0xFFFF a) _ h in
+    let b = bounds 0xFF00 0xFFFF a (p .0) in
+    record { first = b .0; last = b .1; cnf-one = eqb-true _ _ (p .1) }
+
+-- B0 is not in data space and in program space at once
+pub one-space : (cnf a at : ℕ) → dataRegion cnf a ≡ B0 → inProgramB0 cnf at ≡ true → ⊥
+one-space cnf a at h g =
+    let l = subst (Lies cnf a) h (region-lies cnf a) in
+    let p = program-b0 cnf at g in
+    omega arith
+
+-- the edges: the last word of B0 moves into B1 and that of B1 nowhere; the bench's direct addresses 80h and 60h; FEFFh is absent
+pub edges : (moveAllowed 0 0x2FF ≡ true) × (moveAllowed 1 0x2FF ≡ false) × (moveAllowed 0 0x3FF ≡ false) × (moveAllowed 0 0x7F ≡ false)
+    × (dataPresent 0 0x80 ≡ false) × (dataPresent 0 0x60 ≡ true) × (programPresent 1 0xFEFF ≡ false) × (programPresent 1 0xFF00 ≡ true) × (programPresent 0 0x1000 ≡ false)
+unfolding moveAllowed onChip dataPresent dataRegion programPresent inRom inProgramB0
+edges = (refl, refl, refl, refl, refl, refl, refl, refl, refl)

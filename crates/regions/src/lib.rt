@@ -1,0 +1,100 @@
+// Which data and program addresses are on the board.
+ghost use mathlib.Core.Path.{_≡_};
+ghost use Rattle.regions.specs.Regions.{present, onChipRegion, dataRegion, dataPresent, onChip, moveAllowed, inRom, inProgramB0, programPresent};
+
+// Where a data address lies. One function, data_region, knows the ranges.
+pub enum Region {
+    Absent,
+    B2,
+    B0,
+    B1,
+    External,
+}
+
+pub fn region_present(region: Region) -> bool
+    ensures { λ r. ⌜ r ≡ present region ⌝ }
+{
+    match region {
+        Region::Absent => false,
+        Region::B2 => true,
+        Region::B0 => true,
+        Region::B1 => true,
+        Region::External => true,
+    }
+}
+
+pub fn region_on_chip(region: Region) -> bool
+    ensures { λ r. ⌜ r ≡ onChipRegion region ⌝ }
+{
+    match region {
+        Region::Absent => false,
+        Region::B2 => true,
+        Region::B0 => true,
+        Region::B1 => true,
+        Region::External => false,
+    }
+}
+
+pub fn data_region(cnf: u8, address: u16) -> Region
+    ensures { λ r. ⌜ r ≡ dataRegion cnf address ⌝ }
+{
+    if (address >= 0x60) & (address <= 0x7F) {
+        return Region::B2;
+    }
+    if (address >= 0x200) & (address <= 0x2FF) & (cnf == 0) {
+        return Region::B0;
+    }
+    if (address >= 0x300) & (address <= 0x3FF) {
+        return Region::B1;
+    }
+    if (address >= 0x400) & (address <= 0xFFF) {
+        return Region::External;
+    }
+    Region::Absent
+}
+
+pub fn data_present(cnf: u8, address: u16) -> bool
+    ensures { λ r. ⌜ r ≡ dataPresent cnf address ⌝ }
+{
+    region_present(data_region(cnf, address))
+}
+
+// Whether an address is in an on-chip block that is now in data space.
+pub fn on_chip(cnf: u8, address: u16) -> bool
+    ensures { λ r. ⌜ r ≡ onChip cnf address ⌝ }
+{
+    region_on_chip(data_region(cnf, address))
+}
+
+// Whether a data move copies the word at an address to the next one.
+pub fn move_allowed(cnf: u8, address: u16) -> bool
+    ensures { λ r. ⌜ r ≡ moveAllowed cnf address ⌝ }
+{
+    if address == 0xFFFF {
+        return false;
+    }
+    let here = on_chip(cnf, address);
+    let next = on_chip(cnf, address + 1);
+    here & next
+}
+
+pub fn in_rom(address: u16) -> bool
+    ensures { λ r. ⌜ r ≡ inRom address ⌝ }
+{
+    address < 4096
+}
+
+// Whether B0 answers at a program address.
+pub fn in_program_b0(cnf: u8, address: u16) -> bool
+    ensures { λ r. ⌜ r ≡ inProgramB0 cnf address ⌝ }
+{
+    (address >= 0xFF00) & (cnf == 1)
+}
+
+pub fn program_present(cnf: u8, address: u16) -> bool
+    ensures { λ r. ⌜ r ≡ programPresent cnf address ⌝ }
+{
+    let rom = in_rom(address);
+    let block = in_program_b0(cnf, address);
+    rom | block
+}

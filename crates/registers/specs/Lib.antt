@@ -1,0 +1,4 @@
+-- definitions
+pub mod Registers
+-- laws
+pub mod RegisterLaws

@@ -1,0 +1,4 @@
+-- the file that document 01 prints
+pub mod Example
+-- laws
+pub mod RoundTrip

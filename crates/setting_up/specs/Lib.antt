@@ -1,0 +1,7 @@
+-- definitions
+pub mod SetUp
+-- words of the laws
+pub mod SetUpFacts
+-- laws
+pub mod MemoryLaws
+pub mod SetUpLaws

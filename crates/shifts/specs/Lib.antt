@@ -1,0 +1,4 @@
+-- definitions
+pub mod Shifts
+-- laws
+pub mod ShiftLaws

@@ -1,0 +1,122 @@
+-- Laws of parts, of check 2 and of the page store.
+use mathlib.Core.Path.{_≡_, refl, ap, _∙_}
+use mathlib.Core.Bool.{Bool, true, false, _&&_}
+use mathlib.Core.List.{List, [], _∷_, append-assoc}
+use Prim.Native.Nat.{ℕ, zero, suc, _+_, _*_, _-_, _/_, _%_, _≤_, _<_, min}
+use native.Mathlib.Omega.{arith}
+use native.Mathlib.Numerals.{unary-clauses}
+use lib.Dec.{leb, eqb}
+use lib.ListN.{length, take, drop, set, length-take, length-set}
+use lib.Seq.{slice, take-nil, set-out}
+use borrow.Author.Tests.{le-leb, lt-leb, leb-true, leb-false, eqb-true}
+use borrow.Rule.Slice.PartMut.{mid-len, post-is, put-same, set-mid-at, same-len-mid, take-put, drop-put}
+use Rattle.slices.specs.Slices.{memoriesFit, portFits, slicesFit, pagePart, pageStored}
+use Rattle.regions.specs.RegionLaws.{both}
+use Rattle.machine.specs.declared.Machine.{Machine}
+use Rattle.slices.specs.SliceFacts.{MemoriesFit, PortFits, SlicesFit}
+use Rattle.slices.specs.PageLent.{count, lent, written, rejoined}
+
+-- a part, by its start and how many words it has
+pub part-counted : (f t : ℕ) (l : List ℕ) → take (t - f) (drop f l) ≡ slice f t l
+part-counted zero t l = simp unary-clauses
+part-counted (suc f) zero l =
+    let none : 0 - suc f ≡ 0 = omega arith in
+    rw none
+part-counted (suc f) (suc t) [] = take-nil (suc t - suc f)
+part-counted (suc f) (suc t) (x ∷ xs) = simp unary-clauses (part-counted f t xs)
+
+take-min : (t : ℕ) (l : List ℕ) → take (min t (length l)) l ≡ take t l
+take-min zero l = simp unary-clauses
+take-min (suc t) [] = simp unary-clauses
+take-min (suc t) (x ∷ xs) = simp unary-clauses (ap (λ (z : List ℕ). x ∷ z) (take-min t xs))
+
+drop-min : (f : ℕ) (l : List ℕ) → drop (min f (length l)) l ≡ drop f l
+drop-min zero l = simp unary-clauses
+drop-min (suc f) [] = simp unary-clauses
+drop-min (suc f) (x ∷ xs) = simp unary-clauses (drop-min f xs)
+
+part-cut : (f t : ℕ) (l : List ℕ) → slice (min f (min t (length l))) (min t (length l)) l ≡ slice f t l
+part-cut f t l = rw (take-min t l, ← length-take t l) (drop-min f (take t l))
+
+-- bounds cut down to the words that are there give the same part
+pub part-shown : (f t : ℕ) (l : List ℕ) (start end : ℕ) → end ≡ min t (length l) → start ≡ min f end → take (end - start) (drop start l) ≡ slice f t l
+part-shown f t l start end he hs = rw (part-counted start end l, hs, he) (part-cut f t l)
+
+module _ (d : List ℕ) (page offset word : ℕ) where
+  pub page-put : 128 * page + 128 ≤ length d → pageStored d page offset word ≡ rejoined d page offset word
+  unfolding pageStored pagePart
+  page-put h =
+      simp (le-leb (128 * page + 128) (length d) h)
+      (rw (append-assoc, ← part-counted (128 * page) (128 * page + 128) d, ← post-is (128 * page) (128 * page + 128) d (omega arith)))
+
+  pub page-missing : length d < 128 * page + 128 → pageStored d page offset word ≡ d
+  unfolding pageStored
+  page-missing h = simp (lt-leb (128 * page + 128) (length d) h)
+
+  either-way : (P : List ℕ → Type 0) → (128 * page + 128 ≤ length d → P (rejoined d page offset word)) → P d → P (pageStored d page offset word)
+  either-way P put kept = by (leb (128 * page + 128) (length d)) refl
+    where
+      by : (t : Bool) → leb (128 * page + 128) (length d) ≡ t → P (pageStored d page offset word)
+      by true e = let h = leb-true _ _ e in rw (page-put h) (put h)
+      by false e = rw (page-missing (leb-false _ _ e)) kept
+
+  -- the words before the page, and those after it, are as they were
+  pub page-before : take (128 * page) (pageStored d page offset word) ≡ take (128 * page) d
+  page-before =
+      either-way (λ (x : List ℕ). take (128 * page) x ≡ take (128 * page) d)
+      (λ h. take-put (128 * page) (count page) d (written d page offset word) (omega arith))
+      refl
+
+  pub page-after : drop (128 * page + 128) (pageStored d page offset word) ≡ drop (128 * page + 128) d
+  page-after =
+      either-way (λ (x : List ℕ). drop (128 * page + 128) x ≡ drop (128 * page + 128) d)
+      (λ h.
+      drop-put (128 * page) (128 * page + 128) d (written d page offset word) (omega arith) h
+      (length-set (lent d page) offset word ∙ mid-len (128 * page) (128 * page + 128) d h))
+      refl
+
+  pub page-length : length (pageStored d page offset word) ≡ length d
+  page-length =
+      either-way (λ (x : List ℕ). length x ≡ length d)
+      (λ h. same-len-mid (128 * page) (count page) d (written d page offset word) (length-set (lent d page) offset word))
+      refl
+
+  -- an offset outside the page stores nothing
+  pub page-outside : 128 ≤ offset → pageStored d page offset word ≡ d
+  page-outside far =
+      either-way (λ (x : List ℕ). x ≡ d)
+      (λ h.
+      let out : length (lent d page) ≤ offset = rw (mid-len (128 * page) (128 * page + 128) d h) (omega arith) in
+      rw (set-out (lent d page) offset word out) (put-same (128 * page) (count page) d))
+      refl
+
+  -- in the page it is the one store at 128 times the page plus the offset
+  pub page-set : 128 * page + 128 ≤ length d → offset < 128 → pageStored d page offset word ≡ set d (128 * page + offset) word
+  page-set h near =
+      let inside : offset < length (lent d page) = rw (mid-len (128 * page) (128 * page + 128) d h) (omega arith) in
+      page-put h ∙ set-mid-at (128 * page) (count page) offset d word inside
+
+-- a store by page and offset is the store at its address
+pub address-set : (d : List ℕ) (address word : ℕ) → length d ≡ 4096 → address < 4096 → pageStored d (address / 128) (address % 128) word ≡ set d address word
+address-set d address word h below =
+    let e : 128 * (address / 128) + address % 128 ≡ address = omega arith in
+    page-set d (address / 128) (address % 128) word (omega arith) (omega arith) ∙ rw e
+
+pub memories-fit : (rom d : List ℕ) → memoriesFit rom d ≡ true → MemoriesFit rom d
+unfolding memoriesFit
+memories-fit rom d h =
+    let p = both (eqb (length rom) 4096) _ h in
+    record { rom-size = eqb-true _ _ (p .0); data-size = eqb-true _ _ (p .1) }
+
+pub port-fits : (size cursor : ℕ) → portFits size cursor ≡ true → PortFits size cursor
+unfolding portFits
+port-fits size cursor h =
+    let p = both (leb size 1024) _ h in
+    record { size-most = leb-true _ _ (p .0); not-past = leb-true _ _ (p .1) }
+
+pub slices-fit : (m : Machine) (rom d input : List ℕ) (outputLength : ℕ) → slicesFit m rom d input outputLength ≡ true → SlicesFit m rom d input outputLength
+unfolding slicesFit
+slices-fit m rom d input outputLength h =
+    let p = both (memoriesFit rom d && portFits (length input) (m .«input_cursor»)) _ h in
+    let q = both (memoriesFit rom d) _ (p .0) in
+    record { memories = memories-fit rom d (q .0); input-port = port-fits _ _ (q .1); output-port = port-fits _ _ (p .1) }

@@ -1,0 +1,4 @@
+-- definitions
+pub mod Stack
+-- laws
+pub mod StackLaws

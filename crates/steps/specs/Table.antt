@@ -1,0 +1,80 @@
+-- The table of answers of a step: one row for each line of the order in document 01. The refusal is the first row that holds.
+use mathlib.Core.Bool.{Bool, true, false, not, cond, _&&_}
+use mathlib.Core.List.{List, [], _∷_}
+use Prim.Native.Nat.{ℕ}
+use lib.Dec.{ltb, eqb}
+use Rattle.registers.specs.Registers.{wrappedSum}
+use Rattle.machine.specs.declared.Machine.{Machine}
+use Rattle.machine.specs.Range.{inRange}
+use Rattle.answers.specs.declared.Answer.{Answer}
+use Rattle.answers.specs.declared.Answer.the-variants.{CellOutOfRange, SlicesUnfit, NoEncoding, NotInBase, ProgramAbsent, DataAbsent, NotRepeatable, AddressAbove, WrongPort, OutputFull}
+use Rattle.instructions.specs.declared.Instruction.{Instruction}
+use Rattle.instructions.specs.declared.Decoded.{Decoded}
+use Rattle.instructions.specs.declared.Decoded.the-variants.{Base, Published, Nothing}
+use Rattle.instructions.specs.Decode.{decodeOf}
+use Rattle.traits.specs.Pages.{traitsOf}
+use Rattle.regions.specs.Regions.{programPresent}
+use Rattle.slices.specs.Slices.{slicesFit}
+use Rattle.windows.specs.Windows.{programWord}
+use Rattle.refusals.specs.Rows.{Row, row, firstGiven}
+use Rattle.refusals.specs.Refusals.{wrongPort, addressAbove, dataAbsent, tableAbsent, outputFull}
+
+-- what the word at PC is
+unfoldable pub decodedAt : List ℕ → List ℕ → Machine → Decoded
+decodedAt rom «data» m = decodeOf (programWord (m .cnf) (m .pc) rom «data»)
+
+-- the second word's address, "PC + 1 modulo 65,536, wherever that lies" (ruling R10), and the second word where the instruction has two
+unfoldable pub secondAddress : Machine → ℕ
+secondAddress m = wrappedSum (m .pc) 1
+
+unfoldable pub secondWord : Instruction → List ℕ → List ℕ → Machine → ℕ
+secondWord i rom «data» m = cond (eqb (traitsOf i .words) 2) (programWord (m .cnf) (secondAddress m) rom «data») 0
+
+-- a condition on the instruction, where the word is one of the base
+abbrev pub ofBase : (Instruction → Bool) → Decoded → Bool
+ofBase condition (Base i) = condition i
+ofBase condition Published = false
+ofBase condition Nothing = false
+
+abbrev pub isNothing : Decoded → Bool
+isNothing (Base i) = false
+isNothing Published = false
+isNothing Nothing = true
+
+abbrev pub isPublished : Decoded → Bool
+isPublished (Base i) = false
+isPublished Published = true
+isPublished Nothing = false
+
+-- "RPTC above 0 and its page says not repeatable"
+unfoldable pub notRepeatable : Machine → Instruction → Bool
+notRepeatable m i = ltb 0 (m .rptc) && not (traitsOf i .repeatable)
+
+-- "program address absent", of the second word, whether or not the step uses the word (ruling R11)
+unfoldable pub secondAbsent : Machine → Instruction → Bool
+secondAbsent m i = eqb (traitsOf i .words) 2 && not (programPresent (m .cnf) (secondAddress m))
+
+-- "Order in a step: 1, 2, 5 for the first word, 3, 4, 7, 5 for the second word, 9, 8, 6, 5 for a MAC or MACD table word, 10."
+unfoldable pub tableFor : Decoded → List ℕ → List ℕ → List ℕ → ℕ → Machine → List Row
+tableFor d rom «data» input outputLength m =
+    row CellOutOfRange (not (inRange m))
+    ∷ row SlicesUnfit (not (slicesFit m rom «data» input outputLength))
+    ∷ row ProgramAbsent (not (programPresent (m .cnf) (m .pc)))
+    ∷ row NoEncoding (isNothing d)
+    ∷ row NotInBase (isPublished d)
+    ∷ row NotRepeatable (ofBase (notRepeatable m) d)
+    ∷ row ProgramAbsent (ofBase (secondAbsent m) d)
+    ∷ row WrongPort (ofBase (λ i. wrongPort (traitsOf i .port)) d)
+    ∷ row AddressAbove (ofBase (λ i. addressAbove (traitsOf i) m) d)
+    ∷ row DataAbsent (ofBase (λ i. dataAbsent (traitsOf i) m) d)
+    ∷ row ProgramAbsent (ofBase (λ i. tableAbsent (traitsOf i) (secondWord i rom «data» m) m) d)
+    ∷ row OutputFull (ofBase (λ i. outputFull (traitsOf i) outputLength m) d)
+    ∷ []
+
+unfoldable pub refusalOf : List ℕ → List ℕ → List ℕ → ℕ → Machine → Answer
+refusalOf rom «data» input outputLength m = firstGiven (tableFor (decodedAt rom «data» m) rom «data» input outputLength m)
+
+-- checks 1 and 2 alone
+unfoldable pub checksOf : List ℕ → List ℕ → List ℕ → ℕ → Machine → Answer
+checksOf rom «data» input outputLength m =
+    firstGiven (row CellOutOfRange (not (inRange m)) ∷ row SlicesUnfit (not (slicesFit m rom «data» input outputLength)) ∷ [])

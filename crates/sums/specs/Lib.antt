@@ -1,0 +1,4 @@
+-- definitions
+pub mod Sums
+-- laws
+pub mod SumLaws

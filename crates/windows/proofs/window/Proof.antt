@@ -1,0 +1,37 @@
+use mathlib.Core.Path.{sym, ap, _∙_}
+use Rattle.answers.specs.Numbers.{isDone}
+use Rattle.windows.specs.Windows.{windowShown}
+use borrow.Author.Needs.{needs}
+use Rattle.windows.proofs.window.Statement.{statement}
+use Rattle.windows.proofs.window.Tie as tie
+
+window-answer-requires : tie.Need-window-answer-requires
+window-answer-requires c κs = search needs
+
+is-done-requires : tie.Need-is-done-requires
+is-done-requires c κs = search needs
+
+region-window-requires : tie.Need-region-window-requires
+region-window-requires c κs = search needs
+
+returns : tie.Need-returns
+unfolding windowShown
+returns c = rw (c .region-window .ensures) (simp (sym (c .before .before .is-done .ensures ∙ ap isDone (c .before .before .before .window-answer .ensures)) ∙ c .before .if1 .taken))
+
+slice-aggregate-result : tie.Need-slice-aggregate-result
+slice-aggregate-result c = search needs
+
+returns-2 : tie.Need-returns-2
+unfolding windowShown
+returns-2 c = simp (sym (c .before .before .is-done .ensures ∙ ap isDone (c .before .before .before .window-answer .ensures)) ∙ c .before .if1 .left)
+
+pub window-spec : {M : Type 1} → statement M
+window-spec =
+    tie.close
+    (tie.spec
+    window-answer-requires
+    is-done-requires
+    region-window-requires
+    returns
+    slice-aggregate-result
+    returns-2)

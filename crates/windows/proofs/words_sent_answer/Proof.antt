@@ -1,0 +1,28 @@
+use mathlib.Core.Path.{sym, _∙_}
+use Rattle.windows.specs.Windows.{wordsSentAnswer}
+use borrow.Author.Tests.{not-true, not-false}
+use borrow.Author.Needs.{needs}
+use Rattle.windows.proofs.words_sent_answer.Statement.{statement}
+use Rattle.windows.proofs.words_sent_answer.Tie as tie
+
+in-range-requires : tie.Need-in-range-requires
+in-range-requires c κs = search needs
+
+returns : tie.Need-returns
+unfolding wordsSentAnswer
+returns c = simp (sym (c .before .in-range .ensures) ∙ not-true _ (c .if1 .taken))
+
+port-fits-requires : tie.Need-port-fits-requires
+port-fits-requires c κs = search needs
+
+returns-2 : tie.Need-returns-2
+unfolding wordsSentAnswer
+returns-2 c = simp (sym (c .before .before .before .in-range .ensures) ∙ not-false _ (c .before .before .if1 .left), sym (c .before .port-fits .ensures) ∙ not-true _ (c .if2 .taken))
+
+returns-3 : tie.Need-returns-3
+unfolding wordsSentAnswer
+returns-3 c = simp (sym (c .before .before .before .in-range .ensures) ∙ not-false _ (c .before .before .if1 .left), sym (c .before .port-fits .ensures) ∙ not-false _ (c .if2 .left))
+
+pub words-sent-answer-spec : {M : Type 1} → statement M
+words-sent-answer-spec =
+    tie.close (tie.spec in-range-requires returns port-fits-requires returns-2 returns-3)

@@ -1,0 +1,6 @@
+-- definitions
+pub mod Windows
+-- words of the laws
+pub mod WindowFacts
+-- laws
+pub mod WindowLaws

@@ -1,0 +1,4 @@
+-- definitions
+pub mod Writing
+-- laws
+pub mod WritingLaws
