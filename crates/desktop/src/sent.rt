@@ -3,10 +3,10 @@ ghost use mathlib.Core.Path.{_≡_};
 ghost use Rattle.desktop.specs.Calls.{counted, sentCalled};
 use crate::numbers::number_of;
 use answers::is_done;
-use windows::words_sent;
-use windows::words_sent_answer;
 use cells::cells_answer;
 use cells::machine_of;
+use windows::words_sent;
+use windows::words_sent_answer;
 
 // How many words were sent: they are the first of the output slice.
 #[no_mangle]

@@ -5,12 +5,12 @@ ghost use Rattle.windows.specs.Windows.{windowShown};
 ghost use Rattle.desktop.specs.Calls.{placeOf, placed, windowCalled};
 use crate::numbers::number_of;
 use answers::is_done;
-use regions::in_rom;
-use windows::window;
-use windows::window_answer;
 use cells::cells_answer;
 use cells::machine_of;
 use machine::Machine;
+use regions::in_rom;
+use windows::window;
+use windows::window_answer;
 
 // Where a window stands: in the program memory (1), in the data memory (2) or nowhere (0).
 pub struct Place {
