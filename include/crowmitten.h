@@ -8,8 +8,8 @@
  * const.
  *
  * Every function gives an answer of the table below. A refusal changes no cell,
- * no memory and no port, and its counts are 0; only a run keeps the steps that
- * it had done before the refused one.
+ * no memory and no port, and the numbers that it gives back are 0; only a run
+ * keeps, and counts, the steps that were done before the refused one.
  */
 #ifndef CROWMITTEN_H
 #define CROWMITTEN_H
