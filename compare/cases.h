@@ -1,0 +1,24 @@
+/* The kinds of cases, each with its own sequence for every case's number. */
+#ifndef CASES_H
+#define CASES_H
+
+#include <stdint.h>
+
+enum { KIND_STEP = 1, KIND_RUN, KIND_FILE, KIND_VIEW };
+
+/* Single steps from states drawn by chance. */
+void compare_steps(uint64_t seed, uint64_t cases);
+
+/* Whole runs of programs drawn by chance. */
+void compare_runs(uint64_t seed, uint64_t cases);
+
+/* Run files, good and damaged: read, set up, written. */
+void compare_files(uint64_t seed, uint64_t cases);
+
+/* Fetch windows, words sent and resets. */
+void compare_views(uint64_t seed, uint64_t cases);
+
+/* Steps per second of both emulators. Gives the program's exit. */
+int measure_speed(void);
+
+#endif

@@ -1,0 +1,40 @@
+/*
+ * compare CASES SEED: feeds both emulators the same worlds.
+ * compare bench: measures their speed.
+ */
+#include "cases.h"
+#include "report.h"
+#include "words.h"
+
+#include <inttypes.h>
+#include <stdio.h>
+#include <stdlib.h>
+#include <string.h>
+
+static bool number_in(const char *text, uint64_t *number)
+{
+    char *end;
+    *number = strtoull(text, &end, 10);
+    return text[0] >= '0' && text[0] <= '9' && *end == '\0';
+}
+
+int main(int count, char **words)
+{
+    uint64_t cases;
+    uint64_t seed;
+    if (count == 2 && strcmp(words[1], "bench") == 0)
+        return measure_speed();
+    if (count != 3 || !number_in(words[1], &cases)
+        || !number_in(words[2], &seed)) {
+        fprintf(stderr, "usage: compare CASES SEED, or compare bench\n");
+        return 2;
+    }
+    if (!words_sort())
+        report_missing("the base's", "75 pages");
+    printf("seed %" PRIu64 "\n", seed);
+    compare_steps(seed, cases);
+    compare_runs(seed, cases / 50);
+    compare_files(seed, cases / 50);
+    compare_views(seed, cases / 50);
+    return report_end();
+}
