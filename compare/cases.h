@@ -4,7 +4,10 @@
 
 #include <stdint.h>
 
-enum { KIND_STEP = 1, KIND_RUN, KIND_FILE, KIND_VIEW };
+enum { KIND_STEP = 1, KIND_RUN, KIND_FILE, KIND_VIEW, KIND_WORD };
+
+/* One step of every word, from a state drawn by chance. */
+void compare_words(uint64_t seed);
 
 /* Single steps from states drawn by chance. */
 void compare_steps(uint64_t seed, uint64_t cases);

@@ -32,6 +32,7 @@ int main(int count, char **words)
     if (!words_sort())
         report_missing("the base's", "75 pages");
     printf("seed %" PRIu64 "\n", seed);
+    compare_words(seed);
     compare_steps(seed, cases);
     compare_runs(seed, cases / 50);
     compare_files(seed, cases / 50);

@@ -48,6 +48,13 @@ void report_cells(const char *what, const uint32_t *cells)
     printf("\n");
 }
 
+void report_lengths(const struct world *w)
+{
+    printf("  lengths: cells %zu, rom %zu, data %zu, input %zu, output %zu\n",
+           w->cells_length, w->rom_length, w->data_length, w->input_length,
+           w->output_length);
+}
+
 void report_words(const char *what, const uint16_t *plain,
                   const uint16_t *proved, size_t count)
 {

@@ -15,6 +15,8 @@ void report_number(const char *what, uint64_t plain, uint64_t proved);
 
 void report_cells(const char *what, const uint32_t *cells);
 
+void report_lengths(const struct world *w);
+
 /* The cells, data and output words in which the sides differ. */
 void report_sides(const struct world *w);
 

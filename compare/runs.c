@@ -223,23 +223,30 @@ static void draw_start(struct draw *d, struct world *w)
         grow(d, w, 20 + draw_below(d, 400));
 }
 
-/* The world, from a run file where the program starts at reset. */
-static bool draw_run_world(struct draw *d, struct world *w)
+/*
+ * The world, from a run file where the program starts at reset; else spoilt
+ * now and then, *spoilt says so. False where the file is set up otherwise.
+ */
+static bool draw_run_world(struct draw *d, struct world *w, bool *spoilt)
 {
     draw_start(d, w);
-    bool same = true;
+    *spoilt = false;
     if (w->plain.machine.pc == 0 && draw_percent(d, 40)) {
         file_runs++;
-        same = start_from_file(d, w);
-    } else if (draw_percent(d, 3)) {
-        spoil(d, w);
+        return start_from_file(d, w);
     }
-    return same;
+    *spoilt = draw_percent(d, 4);
+    if (*spoilt)
+        spoil(d, w);
+    return true;
 }
 
-static uint16_t draw_budget(struct draw *d)
+/* Budget 0 makes checks 1 and 2 (D01), so a spoilt world has it often. */
+static uint16_t draw_budget(struct draw *d, bool spoilt)
 {
     uint32_t how = draw_below(d, 100);
+    if (spoilt && how < 40)
+        return 0;
     if (how < 5)
         return (uint16_t)draw_below(d, 3);
     if (how < 60)
@@ -279,6 +286,7 @@ static void report_run(uint64_t seed, uint64_t number, uint32_t budget,
            plain.answer);
     report_number("answer", plain.answer, proved.answer);
     report_number("steps", plain.steps, proved.steps);
+    report_lengths(&start);
     report_cells("cells at the start", start.plain.cells);
     report_sides(&world);
     report_first_step(plain.steps);
@@ -311,12 +319,13 @@ static struct outcome run_proved_twice(uint16_t budget, uint16_t a)
 static void run_case(uint64_t seed, uint64_t number)
 {
     struct draw d = draw_case(seed, KIND_RUN, number);
-    if (!draw_run_world(&d, &world)
+    bool spoilt;
+    if (!draw_run_world(&d, &world, &spoilt)
         && report_difference("run (its file)", seed, number))
         report_sides(&world);
     sides_level(&world);
     start = world;
-    uint16_t budget = draw_budget(&d);
+    uint16_t budget = draw_budget(&d, spoilt);
     bool split = draw_percent(&d, 20);
     split_runs += split;
     struct outcome plain = run_plain(&world, budget);

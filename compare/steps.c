@@ -1,4 +1,7 @@
-/* Single steps: every page, mode and refusal from states drawn by chance. */
+/*
+ * Single steps from states drawn by chance: every word once, then words drawn
+ * so that every page, mode and refusal comes often.
+ */
 #include "cases.h"
 #include "report.h"
 #include "words.h"
@@ -31,41 +34,43 @@ static uint16_t draw_instruction(struct draw *d)
     return how < 96 ? draw_other_word(d) : (uint16_t)draw_bits(d);
 }
 
-/* An operand for the word: DP or AR(ARP) points at it. Gives the word. */
-static uint16_t draw_operand(struct draw *d, struct world *w, uint16_t word)
+/* An offset for a direct word, good with DP or not; others are left. */
+static uint16_t draw_offset(struct draw *d, struct world *w, uint16_t word)
 {
     struct plain_machine *m = &w->plain.machine;
     uint32_t address = draw_data_address(d, m->cnf);
-    if (word >= 0xF000) /* a branch makes no access; BANZ asks for 0 */
-        address = draw_word(d);
-    if (mode_of(word) < 0)
+    if (mode_of(word) != 0)
         return word;
-    put_data(w, address, draw_word(d));
-    put_data(w, address + 1, draw_word(d));
-    if (mode_of(word) > 0) {
-        m->ar[m->arp] = address;
-        return word;
-    }
     m->dp = (address >> 7) & 511;
     return (uint16_t)((word & 0xFF80) | (address & 0x7F));
 }
 
-/* The words that the step can read are set last, so that they stay. */
-static void draw_world(struct draw *d, struct world *w)
+/* The operand's words, and AR(ARP) where the word is indirect. */
+static void draw_operand(struct draw *d, struct world *w, uint16_t word)
 {
     struct plain_machine *m = &w->plain.machine;
-    draw_cells(d, m);
-    draw_slices(d, w);
-    uint16_t word = draw_operand(d, w, draw_instruction(d));
+    uint32_t address = 128 * m->dp + (word & 0x7F);
+    if (mode_of(word) > 0) {
+        address = draw_data_address(d, m->cnf);
+        if (word >= 0xF000) /* a branch makes no access; BANZ asks for 0 */
+            address = draw_word(d);
+        m->ar[m->arp] = address;
+    }
+    put_data(w, address, draw_word(d));
+    put_data(w, address + 1, draw_word(d));
+}
+
+/* The words that the step can read are set last, so that they stay. */
+static void draw_world(struct draw *d, struct world *w, uint16_t word)
+{
+    struct plain_machine *m = &w->plain.machine;
+    draw_operand(d, w, word);
     uint32_t second = draw_program_address(d, m->cnf);
     uint32_t table = m->mid == 0 ? second : m->pfc;
     w->input[m->input_cursor] = draw_word(d);
     put_program(w, table, draw_word(d));
     put_program(w, (m->pc + 1) & 0xFFFF, (uint16_t)second);
     put_program(w, m->pc, word);
-    if (draw_percent(d, 5))
-        spoil(d, w);
-    memcpy(w->proved.cells, w->plain.cells, sizeof w->proved.cells);
 }
 
 /* Where a 5 was given. */
@@ -99,26 +104,21 @@ static void count_step(const struct plain_machine *before, uint16_t word,
     }
 }
 
-static void report_step(uint64_t seed, uint64_t number,
-                        const struct side *before, uint16_t word,
+static void report_step(const struct side *before, uint16_t word,
                         uint16_t second)
 {
-    if (!report_difference("step", seed, number))
-        return;
     printf("  word %04X (%s), second word %04X\n", word, plain_name(word),
            second);
-    printf("  lengths: cells %zu, rom %zu, data %zu, input %zu, output %zu\n",
-           world.cells_length, world.rom_length, world.data_length,
-           world.input_length, world.output_length);
+    report_lengths(&world);
     report_cells("cells before", before->cells);
     report_sides(&world);
 }
 
-static void step_case(uint64_t seed, uint64_t number)
+/* Steps the world on both sides. Gives the plain side's answer. */
+static uint32_t compare_step(const char *kind, uint64_t seed, uint64_t number)
 {
     static struct side before;
-    struct draw d = draw_case(seed, KIND_STEP, number);
-    draw_world(&d, &world);
+    memcpy(world.proved.cells, world.plain.cells, sizeof world.proved.cells);
     memcpy(before.cells, world.plain.cells, sizeof before.cells);
     uint32_t pc = before.machine.pc & 0xFFFF;
     uint16_t word = (uint16_t)program_word(&world, pc);
@@ -128,10 +128,37 @@ static void step_case(uint64_t seed, uint64_t number)
     struct outcome proved = step_proved(&world);
     count_step(&before.machine, word, plain.answer);
     if (outcomes_same(plain, proved) && sides_same(&world))
-        return;
-    report_step(seed, number, &before, word, second);
-    report_number("answer", plain.answer, proved.answer);
+        return plain.answer;
+    if (report_difference(kind, seed, number)) {
+        report_step(&before, word, second);
+        report_number("answer", plain.answer, proved.answer);
+    }
     sides_level(&world);
+    return plain.answer;
+}
+
+static void step_case(uint64_t seed, uint64_t number)
+{
+    struct draw d = draw_case(seed, KIND_STEP, number);
+    draw_cells(&d, &world.plain.machine);
+    draw_slices(&d, &world);
+    draw_world(&d, &world, draw_offset(&d, &world, draw_instruction(&d)));
+    if (draw_percent(&d, 5))
+        spoil(&d, &world);
+    compare_step("step", seed, number);
+}
+
+/* With PC on the board and no repeat, 3 and 4 are the word's alone. */
+static uint32_t word_case(uint64_t seed, uint32_t word)
+{
+    struct draw d = draw_case(seed, KIND_WORD, word);
+    struct plain_machine *m = &world.plain.machine;
+    draw_cells(&d, m);
+    draw_slices(&d, &world);
+    m->pc = draw_below(&d, PLAIN_ROM_WORDS - 1);
+    m->rptc = 0;
+    draw_world(&d, &world, (uint16_t)word);
+    return compare_step("word", seed, word);
 }
 
 static void print_answers(void)
@@ -186,8 +213,36 @@ static void find_missing(void)
             report_missing("mode", mode_name(i));
 }
 
+/* R9 has the three counts over all words. */
+void compare_words(uint64_t seed)
+{
+    uint32_t other = 0;
+    uint32_t nothing = 0;
+    for (uint32_t word = 0; word < 0x10000; word++) {
+        uint32_t answer = word_case(seed, word);
+        other += answer == PLAIN_NOT_IN_BASE;
+        nothing += answer == PLAIN_NO_ENCODING;
+    }
+    printf("every word once: base %" PRIu32 ", answer 4: %" PRIu32
+           ", answer 3: %" PRIu32 "\n",
+           0x10000 - other - nothing, other, nothing);
+    if (other != 9097 || nothing != 9298)
+        report_missing("the counts of", "answers 3 and 4");
+}
+
+static void forget_counts(void)
+{
+    memset(answers, 0, sizeof answers);
+    memset(absent, 0, sizeof absent);
+    memset(done, 0, sizeof done);
+    memset(refused, 0, sizeof refused);
+    memset(modes, 0, sizeof modes);
+    memset(pairs, 0, sizeof pairs);
+}
+
 void compare_steps(uint64_t seed, uint64_t cases)
 {
+    forget_counts();
     for (uint64_t i = 0; i < cases; i++)
         step_case(seed, i);
     if (!wide_untouched() && report_difference("steps up to", seed, cases))

@@ -86,9 +86,7 @@ static void report_parts(struct part plain, struct part proved)
     report_number("from", plain.from, proved.from);
     report_number("count", plain.count, proved.count);
     report_cells("cells", world.plain.cells);
-    printf("  lengths: cells %zu, rom %zu, data %zu, output %zu\n",
-           world.cells_length, world.rom_length, world.data_length,
-           world.output_length);
+    report_lengths(&world);
 }
 
 static void window_case(struct draw *d, uint64_t seed, uint64_t number)

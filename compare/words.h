@@ -25,7 +25,7 @@ const char *mode_name(int mode);
 /* Whether some word of the page has the mode. */
 bool page_has_mode(int page, int mode);
 
-/* A word of a page of the base, all pages alike; ports mostly the right ones. */
+/* A word of the base, all pages alike; ports mostly the right ones. */
 uint16_t draw_base_word(struct draw *d);
 
 /* A word in no encoding, or published and not in the base. */
