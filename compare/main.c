@@ -37,5 +37,7 @@ int main(int count, char **words)
     compare_runs(seed, cases / 50);
     compare_files(seed, cases / 50);
     compare_views(seed, cases / 50);
+    if (!wide_untouched() && report_difference("all cases, up to", seed, cases))
+        printf("  a slice of a wrong length was changed\n");
     return report_end();
 }
