@@ -1,6 +1,7 @@
 /*
  * compare CASES SEED: feeds both emulators the same worlds.
  * compare bench: measures their speed.
+ * compare once LOAD SIDE BUDGET: one run of the benchmark, and no output.
  */
 #include "cases.h"
 #include "report.h"
@@ -18,17 +19,8 @@ static bool number_in(const char *text, uint64_t *number)
     return text[0] >= '0' && text[0] <= '9' && *end == '\0';
 }
 
-int main(int count, char **words)
+static int compare_all(uint64_t cases, uint64_t seed)
 {
-    uint64_t cases;
-    uint64_t seed;
-    if (count == 2 && strcmp(words[1], "bench") == 0)
-        return measure_speed();
-    if (count != 3 || !number_in(words[1], &cases)
-        || !number_in(words[2], &seed)) {
-        fprintf(stderr, "usage: compare CASES SEED, or compare bench\n");
-        return 2;
-    }
     if (!words_sort())
         report_missing("the base's", "75 pages");
     printf("seed %" PRIu64 "\n", seed);
@@ -40,4 +32,20 @@ int main(int count, char **words)
     if (!wide_untouched() && report_difference("all cases, up to", seed, cases))
         printf("  a slice of a wrong length was changed\n");
     return report_end();
+}
+
+int main(int count, char **words)
+{
+    uint64_t numbers[3];
+    if (count == 2 && strcmp(words[1], "bench") == 0)
+        return measure_speed();
+    if (count == 3 && number_in(words[1], &numbers[0])
+        && number_in(words[2], &numbers[1]))
+        return compare_all(numbers[0], numbers[1]);
+    if (count == 5 && strcmp(words[1], "once") == 0
+        && number_in(words[2], &numbers[0]) && number_in(words[3], &numbers[1])
+        && number_in(words[4], &numbers[2]))
+        return run_once(numbers[0], numbers[1], numbers[2]);
+    fprintf(stderr, "usage: compare CASES SEED, or compare bench\n");
+    return 2;
 }

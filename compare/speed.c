@@ -185,6 +185,16 @@ static void print_growth(const struct workload *load)
            first[0], first[1]);
 }
 
+int run_once(uint64_t load, uint64_t side, uint64_t budget)
+{
+    if (load >= sizeof workloads / sizeof workloads[0] || budget > 65535)
+        return 2;
+    set_world(&workloads[load]);
+    struct outcome out = side == 0 ? once_plain((uint16_t)budget)
+                                   : once_proved((uint16_t)budget);
+    return out.answer == PLAIN_DONE && out.steps == budget ? 0 : 1;
+}
+
 int measure_speed(void)
 {
     bool good = true;

@@ -1,9 +1,7 @@
-#!/bin/sh
-# Makes the comparing program and runs it with the words given: see run and
-# bench. The library is made where it is missing or older than a source.
-set -eu
-here=$(cd "$(dirname "$0")" && pwd -P)
-top=$(dirname "$here")
+# shellcheck shell=sh disable=SC2154,SC2034
+# Read by run and bench with `top` set to the repository's folder: makes the
+# comparing program and sets `program`, and `emulator` where one is needed.
+# The library is made where it is missing or older than a source.
 library=$top/target/staticlib/libdesktop.a
 program=$top/target/compare
 newer() { find "$top/crates" "$top/crates.txt" -newer "$library" | head -n 1; }
@@ -22,9 +20,8 @@ if [ "$(uname -m)" != x86_64 ]; then
     kit=${RATTLE_HOME:-$(dirname "$(dirname "$rt")")}
     emulator=$kit/on/$(uname -m)/toolchain/bin/qemu-x86_64
 fi
-cd "$here"
+cd "$top/compare"
 # shellcheck disable=SC2086
 "$compiler" -std=c11 -O3 -Wall -Wextra -Wconversion -Wpedantic -Werror $static \
     -I "$top/include" main.c draw.c words.c world.c report.c steps.c runs.c \
     files.c views.c speed.c plain.c "$library" -o "$program"
-exec ${emulator:+"$emulator"} "$program" "$@"
