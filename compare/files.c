@@ -59,9 +59,10 @@ static size_t draw_count(struct draw *d, uint32_t most)
 /* Laid out by the rules, a count over its limit excepted (D01). */
 static void draw_file(struct draw *d)
 {
-    size_t program = draw_count(d, PLAIN_FILE_PROGRAM);
-    size_t data = draw_count(d, PLAIN_FILE_DATA);
-    size_t input = draw_count(d, PLAIN_FILE_INPUT);
+    bool bare = draw_percent(d, 3); /* no words at all: 16 bytes */
+    size_t program = bare ? 0 : draw_count(d, PLAIN_FILE_PROGRAM);
+    size_t data = bare ? 0 : draw_count(d, PLAIN_FILE_DATA);
+    size_t input = bare ? 0 : draw_count(d, PLAIN_FILE_INPUT);
     put_field(0, 1);
     put_field(1, program);
     put_field(2, 16);
@@ -118,7 +119,8 @@ static void damage(struct draw *d)
         file_length += 1 + draw_below(d, 8);
         break;
     default: /* the head itself is cut, or just whole */
-        file_length = draw_below(d, draw_percent(d, 70) ? 18 : 64);
+        file_length = draw_below(d, 2) ? 14 + draw_below(d, 4)
+                                       : draw_below(d, 64);
         break;
     }
 }
