@@ -10,6 +10,8 @@ use plans::program_word;
 use stores::Write;
 use traits::traits_of;
 ghost use mathlib.Core.Path.{_≡_};
+ghost use mathlib.Core.Bool.{cond};
+ghost use Rattle.windows.specs.Windows.{programWord};
 ghost use Rattle.plans.specs.Pass.{refused};
 ghost use Rattle.steps.specs.Stages.{instructionPlan, decodedPlan, fetchPlan};
 
@@ -21,6 +23,16 @@ fn refuse(m: Machine, answer: Answer) -> Plan
         answer,
         write: Write::Nothing,
     }
+}
+
+// The second word where the instruction has two, else 0.
+fn second_word<'a>(two: bool, cnf: u8, at: u16, rom: &'a [u16], data: &'a [u16]) -> u16
+    ensures { λ r. ⌜ r ≡ cond two (programWord cnf at (now (rom .entry)) (now («data» .entry))) 0 ⌝ }
+{
+    if two {
+        return program_word(cnf, at, rom, data);
+    }
+    0
 }
 
 // An instruction of the base: answers 7 and 5 for the second word, then the pass.
@@ -39,15 +51,14 @@ fn plan_instruction<'a>(
     if (0 < m.rptc) & fixed {
         return refuse(m, Answer::NotRepeatable);
     }
-    if t.words == 2 {
-        let at = registers::wrapped_sum(m.pc, 1);
-        if !regions::program_present(m.cnf, at) {
-            return refuse(m, Answer::ProgramAbsent);
-        }
-        let second = program_word(m.cnf, at, rom, data);
-        return plan_pass(i, second, rom, data, input, output_length, m);
+    let two = t.words == 2;
+    let at = registers::wrapped_sum(m.pc, 1);
+    let absent = !regions::program_present(m.cnf, at);
+    if two & absent {
+        return refuse(m, Answer::ProgramAbsent);
     }
-    plan_pass(i, 0, rom, data, input, output_length, m)
+    let second = second_word(two, m.cnf, at, rom, data);
+    plan_pass(i, t, second, rom, data, input, output_length, m)
 }
 
 // Answers 3 and 4, then the instruction.

@@ -101,10 +101,10 @@ pub record RunsAdd (rom input : List ℕ) (a b : ℕ) (w : World) : Type 0 where
 
 -- what the rule of an instruction makes of a world, and what it stores
 abbrev pub effectAt : List ℕ → List ℕ → World → Instruction → Effect
-effectAt rom input w i = effectOf i (secondWord i rom (w .«data») (w .m)) rom (w .«data») input (w .m)
+effectAt rom input w i = effectOf (traitsOf i) i (secondWord i rom (w .«data») (w .m)) rom (w .«data») input (w .m)
 
 abbrev pub writeAt : List ℕ → List ℕ → World → Instruction → Write
-writeAt rom input w i = passedWrite i (secondWord i rom (w .«data») (w .m)) rom (w .«data») input (w .m)
+writeAt rom input w i = passedWrite (traitsOf i) i (secondWord i rom (w .«data») (w .m)) rom (w .«data») input (w .m)
 
 -- the world with another RPTC
 abbrev pub recounted : World → ℕ → World

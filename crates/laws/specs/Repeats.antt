@@ -207,19 +207,19 @@ words-placed t second rom «data» input m n pc = rw (address-placed (t .operand
 -- ---- the pass
 
 module _ (i : Instruction) (h : traitsOf i .repeatable ≡ true) (second : ℕ) (rom «data» input : List ℕ) (m : Machine) where
-  effect-placed : (n pc : ℕ) → effectOf i second rom «data» input (placed m n pc) ≡ uncounted (effectOf i second rom «data» input m) n pc
+  effect-placed : (n pc : ℕ) → effectOf (traitsOf i) i second rom «data» input (placed m n pc) ≡ uncounted (effectOf (traitsOf i) i second rom «data» input m) n pc
   unfolding effectOf
   effect-placed n pc =
       rw (addressed-placed (traitsOf i .operand) m n pc, words-placed (traitsOf i) second rom «data» input m n pc)
       (rule-placed i m (addressed (traitsOf i .operand) m) (wordsRead (traitsOf i) second rom «data» input m) n pc h)
 
   -- the machine after the pass, with RPTC n before it
-  passed-with : (n : ℕ) → passedMachine i second rom «data» input (placed m n (m .pc))
-      ≡ followed (placed (effectOf i second rom «data» input m .m) n (m .pc)) Jump.Past (traitsOf i .words) true
+  passed-with : (n : ℕ) → passedMachine (traitsOf i) i second rom «data» input (placed m n (m .pc))
+      ≡ followed (placed (effectOf (traitsOf i) i second rom «data» input m .m) n (m .pc)) Jump.Past (traitsOf i .words) true
   unfolding passedMachine
   passed-with n = rw (effect-placed n (m .pc), h)
 
-  written-with : (n : ℕ) → passedWrite i second rom «data» input (placed m n (m .pc)) ≡ passedWrite i second rom «data» input m
+  written-with : (n : ℕ) → passedWrite (traitsOf i) i second rom «data» input (placed m n (m .pc)) ≡ passedWrite (traitsOf i) i second rom «data» input m
   unfolding passedWrite
   written-with n = rw (effect-placed n (m .pc), address-placed (traitsOf i .operand) m n (m .pc))
 

@@ -13,6 +13,7 @@ use Rattle.answers.specs.NumberLaws.{done-is}
 use Rattle.instructions.specs.declared.Instruction.{Instruction}
 use Rattle.instructions.specs.declared.Decoded.{Decoded}
 use Rattle.instructions.specs.declared.Decoded.the-variants.{Base, Published, Nothing}
+use Rattle.traits.specs.Pages.{traitsOf}
 use Rattle.plans.specs.declared.Plan.{Plan}
 use Rattle.refusals.specs.Rows.{Row, row, firstGiven}
 use Rattle.stores.specs.Stores.{dataAfter, outputAfter}
@@ -56,7 +57,7 @@ refused-unchanged rom input w h =
 
 -- a step that is done is what the page's rule makes of the world
 pub step-world : (rom input : List ℕ) (w : World) (i : Instruction) → decodedAt rom (w .«data») (w .m) ≡ Base i → stepOf rom input w .answer ≡ Done
-    → stepOf rom input w .world ≡ stored (performed i (secondWord i rom (w .«data») (w .m)) rom (w .«data») input (w .m)) w
+    → stepOf rom input w .world ≡ stored (performed (traitsOf i) i (secondWord i rom (w .«data») (w .m)) rom (w .«data») input (w .m)) w
 unfolding stepOf planOf refusalOf pagePlan
 step-world rom input w i d e =
     let f : isDone (firstGiven (rowsOf rom input w)) ≡ true = ap isDone (sym (step-answer rom input w) ∙ e) in

@@ -44,35 +44,35 @@ wordsRead t second rom «data» input m = record {
   dry = portSpent (length input) (m .«input_cursor»);
 }
 
--- the page's rule, with the machine before and after the operand's modification
-unfoldable pub effectOf : Instruction → ℕ → List ℕ → List ℕ → List ℕ → Machine → Effect
-effectOf i second rom «data» input m =
-    ruleOf i m (addressed (traitsOf i .operand) m) (wordsRead (traitsOf i) second rom «data» input m)
+-- The page's rule, with the machine before and after the operand's modification. t is what the page says of the instruction besides (`traitsOf i`).
+unfoldable pub effectOf : Traits → Instruction → ℕ → List ℕ → List ℕ → List ℕ → Machine → Effect
+effectOf t i second rom «data» input m =
+    ruleOf i m (addressed (t .operand) m) (wordsRead t second rom «data» input m)
 
 -- the machine after a pass that is not refused
-unfoldable pub passedMachine : Instruction → ℕ → List ℕ → List ℕ → List ℕ → Machine → Machine
-passedMachine i second rom «data» input m =
-    followed (effectOf i second rom «data» input m .m) (effectOf i second rom «data» input m .jump) (traitsOf i .words) (traitsOf i .repeatable)
+unfoldable pub passedMachine : Traits → Instruction → ℕ → List ℕ → List ℕ → List ℕ → Machine → Machine
+passedMachine t i second rom «data» input m =
+    followed (effectOf t i second rom «data» input m .m) (effectOf t i second rom «data» input m .jump) (t .words) (t .repeatable)
 
 -- and what it stores
-unfoldable pub passedWrite : Instruction → ℕ → List ℕ → List ℕ → List ℕ → Machine → Write
-passedWrite i second rom «data» input m =
-    writeOf (effectOf i second rom «data» input m .store) (m .cnf) (addressOf (traitsOf i .operand) m) (m .«output_cursor»)
+unfoldable pub passedWrite : Traits → Instruction → ℕ → List ℕ → List ℕ → List ℕ → Machine → Write
+passedWrite t i second rom «data» input m =
+    writeOf (effectOf t i second rom «data» input m .store) (m .cnf) (addressOf (t .operand) m) (m .«output_cursor»)
 
 -- ---- the plan of a pass: by value, and nothing is changed yet
 
 abbrev pub refused : Machine → Answer → Plan
 refused m answer = record { m = m; answer = answer; write = Nothing }
 
-unfoldable pub performed : Instruction → ℕ → List ℕ → List ℕ → List ℕ → Machine → Plan
-performed i second rom «data» input m = record {
-  m = passedMachine i second rom «data» input m;
+unfoldable pub performed : Traits → Instruction → ℕ → List ℕ → List ℕ → List ℕ → Machine → Plan
+performed t i second rom «data» input m = record {
+  m = passedMachine t i second rom «data» input m;
   answer = Done;
-  write = passedWrite i second rom «data» input m;
+  write = passedWrite t i second rom «data» input m;
 }
 
-unfoldable pub passPlan : Instruction → ℕ → List ℕ → List ℕ → List ℕ → ℕ → Machine → Plan
-passPlan i second rom «data» input outputLength m =
-    cond (isDone (passRefusal (traitsOf i) second outputLength m))
-    (performed i second rom «data» input m)
-    (refused m (passRefusal (traitsOf i) second outputLength m))
+unfoldable pub passPlan : Traits → Instruction → ℕ → List ℕ → List ℕ → List ℕ → ℕ → Machine → Plan
+passPlan t i second rom «data» input outputLength m =
+    cond (isDone (passRefusal t second outputLength m))
+    (performed t i second rom «data» input m)
+    (refused m (passRefusal t second outputLength m))

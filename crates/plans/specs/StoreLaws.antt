@@ -191,6 +191,6 @@ write-fits-for t (Left.Sent word) m cursor size f h a = tt
 
 -- the store of a pass that 6 does not refuse
 pub write-fits : (i : Instruction) (second : ℕ) (rom d input : List ℕ) (m : Machine) → length d ≡ 4096 → dataAbsent (traitsOf i) m ≡ false
-    → WriteFits (passedWrite i second rom d input m) (length d)
+    → WriteFits (passedWrite (traitsOf i) i second rom d input m) (length d)
 unfolding passedWrite effectOf
 write-fits i second rom d input m h a = write-fits-for (traitsOf i) _ m (m .«output_cursor») (length d) (store-fits i m _ _) h a

@@ -14,7 +14,6 @@ use stores::Write;
 use stores::write_of;
 use traits::Access;
 use traits::Traits;
-use traits::traits_of;
 ghost use mathlib.Core.Path.{_≡_};
 ghost use lib.ListN.{getD};
 ghost use Rattle.windows.specs.Windows.{programWord};
@@ -101,15 +100,15 @@ fn refuse(m: Machine, answer: Answer) -> Plan
 // A pass that nothing refuses.
 fn perform<'a>(
     i: Instruction,
+    t: Traits,
     second: u16,
     rom: &'a [u16],
     data: &'a [u16],
     input: &[u16],
     m: Machine,
 ) -> Plan
-    ensures { λ r. ⌜ r ≡ performed i second (now (rom .entry)) (now («data» .entry)) (now (input .entry)) m ⌝ }
+    ensures { λ r. ⌜ r ≡ performed t i second (now (rom .entry)) (now («data» .entry)) (now (input .entry)) m ⌝ }
 {
-    let t = traits_of(i);
     let operand = t.operand;
     let words = words_read(t, second, rom, data, input, m);
     let e = rule(i, m, after_operand(m, operand), words);
@@ -125,9 +124,10 @@ fn perform<'a>(
     }
 }
 
-// The decoded instruction and its second word in, the plan of its pass out.
+// The decoded instruction, what its page says of it besides, and its second word in; the plan of its pass out.
 pub fn plan_pass<'a>(
     i: Instruction,
+    t: Traits,
     second: u16,
     rom: &'a [u16],
     data: &'a [u16],
@@ -135,11 +135,11 @@ pub fn plan_pass<'a>(
     output_length: usize,
     m: Machine,
 ) -> Plan
-    ensures { λ r. ⌜ r ≡ passPlan i second (now (rom .entry)) (now («data» .entry)) (now (input .entry)) «output_length» m ⌝ }
+    ensures { λ r. ⌜ r ≡ passPlan t i second (now (rom .entry)) (now («data» .entry)) (now (input .entry)) «output_length» m ⌝ }
 {
-    let answer = pass_refusal(traits_of(i), second, output_length, m);
+    let answer = pass_refusal(t, second, output_length, m);
     if is_done(answer) {
-        return perform(i, second, rom, data, input, m);
+        return perform(i, t, second, rom, data, input, m);
     }
     refuse(m, answer)
 }

@@ -181,20 +181,20 @@ slices-kept (Write.Sent at word) d output h f g =
 module _ (rom input d : List ℕ) (o : ℕ) (x : Instruction) (m : Machine) (f : Fits (length input) o m) (g : FieldsFit x)
     (room : sends (traitsOf x .port) ≡ true → m .«output_cursor» < o)
     (hr : WordsFit rom) (hd : WordsFit d) (hi : WordsFit input) where
-  effect-fits : EffectFits (length input) o (effectOf x (secondWord x rom d m) rom d input m)
+  effect-fits : EffectFits (length input) o (effectOf (traitsOf x) x (secondWord x rom d m) rom d input m)
   unfolding effectOf
   effect-fits =
       rule-keeps x (wordsRead (traitsOf x) (secondWord x rom d m) rom d input m) f (addressed-keeps (traitsOf x .operand) (operand-fits x g) f)
       (words-read (traitsOf x) (secondWord x rom d m) rom d input m (second-lt x rom d m hr hd) hr hd hi) g
       (λ e. rw (addressed-cursors (traitsOf x .operand) m .1) (room e))
 
-  passed-fits : Fits (length input) o (passedMachine x (secondWord x rom d m) rom d input m)
+  passed-fits : Fits (length input) o (passedMachine (traitsOf x) x (secondWord x rom d m) rom d input m)
   unfolding passedMachine
-  passed-fits = followed-keeps (effectOf x (secondWord x rom d m) rom d input m .jump) (traitsOf x .words) (traitsOf x .repeatable) (effect-fits .m) (effect-fits .jump)
+  passed-fits = followed-keeps (effectOf (traitsOf x) x (secondWord x rom d m) rom d input m .jump) (traitsOf x .words) (traitsOf x .repeatable) (effect-fits .m) (effect-fits .jump)
 
-  passed-write : WriteFits (passedWrite x (secondWord x rom d m) rom d input m)
+  passed-write : WriteFits (passedWrite (traitsOf x) x (secondWord x rom d m) rom d input m)
   unfolding passedWrite
-  passed-write = write-fits (effectOf x (secondWord x rom d m) rom d input m .store) (m .cnf) (addressOf (traitsOf x .operand) m) (m .«output_cursor») (effect-fits .store)
+  passed-write = write-fits (effectOf (traitsOf x) x (secondWord x rom d m) rom d input m .store) (m .cnf) (addressOf (traitsOf x .operand) m) (m .«output_cursor») (effect-fits .store)
 
 -- ---- the step
 
@@ -214,7 +214,7 @@ module _ (rom input : List ℕ) (w : World) (k : WorldInRange rom input w) (e : 
       let s = slices-fit (w .m) rom (w .«data») input (length (w .output)) (k .slices-fit) in
       let room = room-left (traitsOf x) (length (w .output)) (w .m) full in
       let f = cells-fit rom input w k in
-      let write = passedWrite x (secondWord x rom (w .«data») (w .m)) rom (w .«data») input (w .m) in
+      let write = passedWrite (traitsOf x) x (secondWord x rom (w .«data») (w .m)) rom (w .«data») input (w .m) in
       let after = slices-kept write (w .«data») (w .output)
       (passed-write rom input (w .«data») (length (w .output)) x (w .m) f g room (k .rom-words) (k .data-words) (k .input-words)) (k .data-words) (k .output-words) in
       let n = passed-fits rom input (w .«data») (length (w .output)) x (w .m) f g room (k .rom-words) (k .data-words) (k .input-words) in

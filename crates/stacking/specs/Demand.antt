@@ -36,7 +36,7 @@ use Rattle.stacking.specs.Passes.{plus, plus-is, Began, began, after, Pa
 
 -- the final product add
 apac-page : (rom input : List ℕ) (u : World) (second : ℕ)
-    → accumulationOf (stored (performed (Family.Multiplier Apac) second rom (u .«data») input (u .m)) u .m) ≡ productAdded (u .m .pm) (u .m .ovm) (accumulationOf (u .m))
+    → accumulationOf (stored (performed (traitsOf (Family.Multiplier Apac)) (Family.Multiplier Apac) second rom (u .«data») input (u .m)) u .m) ≡ productAdded (u .m .pm) (u .m .ovm) (accumulationOf (u .m))
 unfolding stored performed passedMachine effectOf traitsOf multiplierTraits ruleOf multiplierRule
 apac-page rom input u second =
     followed-follows (APAC (addressed Operand.Nothing (u .m))) Past 1 true .accumulation

@@ -72,7 +72,7 @@ pub record Began (w v : World) (k : ℕ) : Type 0 where
   pub same-data : v .«data» ≡ w .«data»
 
 module _ (rom input : List ℕ) (w : World) where
-  repeats : (r : Instruction) (k : ℕ) → Repeats w r k → Began w (stored (performed r (secondWord r rom (w .«data») (w .m)) rom (w .«data») input (w .m)) w) k
+  repeats : (r : Instruction) (k : ℕ) → Repeats w r k → Began w (stored (performed (traitsOf r) r (secondWord r rom (w .«data») (w .m)) rom (w .«data») input (w .m)) w) k
   unfolding stored performed passedMachine passedWrite effectOf traitsOf modesTraits ruleOf modesRule RPT RPTK followed destination writeOf dataAfter wordsRead readWord accumulationOf
   repeats _ _ (by-rptk k) =
       let a = operand-alike (traitsOf (Family.Modes (Rptk k)) .operand) (w .m) in
@@ -126,7 +126,7 @@ module _ (rom : List ℕ) (cnf a word : ℕ) (d : List ℕ) (b : word < 2 ^ 16) 
 
 module _ (rom input : List ℕ) (w : World) (data-sized : Sized (w .«data»)) where
   goes : (i : Instruction) → Accumulates i
-      → Went rom w (stored (performed i (secondWord i rom (w .«data») (w .m)) rom (w .«data») input (w .m)) w) (pairFor (Base i) rom input w)
+      → Went rom w (stored (performed (traitsOf i) i (secondWord i rom (w .«data») (w .m)) rom (w .«data») input (w .m)) w) (pairFor (Base i) rom input w)
   unfolding stored performed passedMachine passedWrite effectOf traitsOf multiplierTraits ruleOf multiplierRule MACD writeOf dataAfter outputAfter wordsRead readWord pairFor
   goes _ (by-mac a) =
       went rom w (addressed (At a) (w .m)) (operand-alike (At a) (w .m)) _ _ _ (w .«data») _ (λ x. refl) (λ s. s)

@@ -20,6 +20,7 @@ use Rattle.instructions.specs.declared.NextArp.{NextArp}
 use Rattle.instructions.specs.declared.NextArp.the-variants as Next
 use Rattle.instructions.specs.declared.Decoded.{Decoded}
 use Rattle.instructions.specs.declared.Decoded.the-variants.{Base, Published, Nothing}
+use Rattle.traits.specs.Pages.{traitsOf}
 use Rattle.traits.specs.declared.Operand.{Operand}
 use Rattle.traits.specs.declared.Operand.the-variants as Operand
 use Rattle.passes.specs.declared.Jump.{Jump}
@@ -48,13 +49,13 @@ by-test true i a b h e = refl
 by-test false i a b h e = absurd (false≢true (sym e ∙ h))
 
 module _ (rom input : List ℕ) (w : World) (i : Instruction) (is : decodedAt rom (w .«data») (w .m) ≡ Base i) (done : isDone (stepOf rom input w .answer) ≡ true) where
-  plan-done : planOf rom (w .«data») input (length (w .output)) (w .m) ≡ performed i (secondWord i rom (w .«data») (w .m)) rom (w .«data») input (w .m)
+  plan-done : planOf rom (w .«data») input (length (w .output)) (w .m) ≡ performed (traitsOf i) i (secondWord i rom (w .«data») (w .m)) rom (w .«data») input (w .m)
   unfolding planOf stepOf pagePlan
   plan-done =
       by-test (isDone (refusalOf rom (w .«data») input (length (w .output)) (w .m))) i _ _ done refl
       ∙ ap (λ (d : Decoded). pagePlan d rom (w .«data») input (w .m)) is
 
-  pub step-does : stepOf rom input w .world ≡ stored (performed i (secondWord i rom (w .«data») (w .m)) rom (w .«data») input (w .m)) w
+  pub step-does : stepOf rom input w .world ≡ stored (performed (traitsOf i) i (secondWord i rom (w .«data») (w .m)) rom (w .«data») input (w .m)) w
   unfolding stepOf
   step-does = ap (λ (p : Plan). stored p w) plan-done
 

@@ -25,7 +25,7 @@ unfoldable pub instructionPlan : Instruction → List ℕ → List ℕ → List 
 instructionPlan i rom «data» input outputLength m =
     cond (notRepeatable m i) (refused m NotRepeatable)
     (cond (secondAbsent m i) (refused m ProgramAbsent)
-    (passPlan i (secondWord i rom «data» m) rom «data» input outputLength m))
+    (passPlan (traitsOf i) i (secondWord i rom «data» m) rom «data» input outputLength m))
 
 unfoldable pub decodedPlan : Decoded → List ℕ → List ℕ → List ℕ → ℕ → Machine → Plan
 decodedPlan (Base i) rom «data» input outputLength m = instructionPlan i rom «data» input outputLength m
@@ -68,8 +68,8 @@ module _ (rom «data» input : List ℕ) (outputLength : ℕ) (m : Machine) wher
       ∷ row ProgramAbsent (tableAbsent (traitsOf i) second m)
       ∷ row OutputFull (outputFull (traitsOf i) outputLength m)
       ∷ [])
-      (performed i second rom «data» input m) m
-      ≡ passPlan i second rom «data» input outputLength m
+      (performed (traitsOf i) i second rom «data» input m) m
+      ≡ passPlan (traitsOf i) i second rom «data» input outputLength m
   unfolding byTable passPlan passRefusal
   last-rows i second = refl
 

@@ -9,6 +9,7 @@ use Rattle.answers.specs.declared.Answer.the-variants.{Done}
 use Rattle.answers.specs.Numbers.{isDone}
 use Rattle.instructions.specs.declared.Decoded.{Decoded}
 use Rattle.instructions.specs.declared.Decoded.the-variants.{Base, Published, Nothing}
+use Rattle.traits.specs.Pages.{traitsOf}
 use Rattle.plans.specs.declared.Plan.{Plan}
 use Rattle.stores.specs.Stores.{dataAfter, outputAfter}
 use Rattle.plans.specs.Pass.{performed, refused}
@@ -17,7 +18,7 @@ use Rattle.steps.specs.Table.{decodedAt, secondWord, refusalOf, checksOf
 
 -- What the step does where nothing refuses it: the rule of the word's page. (A word that is no instruction of the base is always refused.)
 unfoldable pub pagePlan : Decoded → List ℕ → List ℕ → List ℕ → Machine → Plan
-pagePlan (Base i) rom «data» input m = performed i (secondWord i rom «data» m) rom «data» input m
+pagePlan (Base i) rom «data» input m = performed (traitsOf i) i (secondWord i rom «data» m) rom «data» input m
 pagePlan Published rom «data» input m = refused m Done
 pagePlan Nothing rom «data» input m = refused m Done
 

@@ -54,7 +54,7 @@ module _ (rom d input : List ℕ) (outputLength : ℕ) (m : Machine) where
   done-or true a b f = f refl
   done-or false a b f = record { fits = tt }
 
-  pass-fits : (i : Instruction) (second : ℕ) → length d ≡ 4096 → Fits (passPlan i second rom d input outputLength m)
+  pass-fits : (i : Instruction) (second : ℕ) → length d ≡ 4096 → Fits (passPlan (traitsOf i) i second rom d input outputLength m)
   unfolding passPlan performed
   pass-fits i second h = done-or (isDone (passRefusal (traitsOf i) second outputLength m)) _ _ (λ e. record { fits = write-fits i second rom d input m h (not-absent i second e) })
 

@@ -1,4 +1,3 @@
-use borrow.Author.Tests.{eq-eqb, ne-eqb}
 use Rattle.steps.specs.Stages.{instructionPlan}
 use Rattle.steps.specs.Table.{notRepeatable, secondAbsent, secondWord, secondAddress}
 use borrow.Author.Needs.{needs}
@@ -26,24 +25,17 @@ refuse-requires-2 c κs = search needs
 
 returns-2 : tie.Need-returns-2
 unfolding instructionPlan notRepeatable secondAbsent secondWord secondAddress
-returns-2 c = rw (c .refuse2 .ensures, ← c .before .before .before .before .before .before .before .before .before .traits-of .ensures, ← c .before .before .before .wrapped-sum .ensures, ← c .before .before .program-present .ensures, c .before .before .before .before .before .before .if1 .left, eq-eqb _ _ (c .before .before .before .before .if2 .taken), c .before .if3 .taken)
+returns-2 c = rw (c .refuse2 .ensures, ← c .before .before .before .before .before .before .before .before .traits-of .ensures, ← c .before .before .before .wrapped-sum .ensures, ← c .before .before .program-present .ensures, c .before .before .before .before .before .if1 .left, c .before .if2 .taken)
 
-program-word-requires : tie.Need-program-word-requires
-program-word-requires c κs = search needs
+second-word-requires : tie.Need-second-word-requires
+second-word-requires c κs = search needs
 
 plan-pass-requires : tie.Need-plan-pass-requires
 plan-pass-requires c κs = search needs
 
 returns-3 : tie.Need-returns-3
 unfolding instructionPlan notRepeatable secondAbsent secondWord secondAddress
-returns-3 c = rw (c .plan-pass .ensures, c .before .program-word .ensures, ← c .before .before .before .before .before .before .before .before .before .before .traits-of .ensures, ← c .before .before .before .before .wrapped-sum .ensures, ← c .before .before .before .program-present .ensures, c .before .before .before .before .before .before .before .if1 .left, eq-eqb _ _ (c .before .before .before .before .before .if2 .taken), c .before .before .if3 .left)
-
-plan-pass-requires-2 : tie.Need-plan-pass-requires-2
-plan-pass-requires-2 c κs = search needs
-
-returns-4 : tie.Need-returns-4
-unfolding instructionPlan notRepeatable secondAbsent secondWord secondAddress
-returns-4 c = rw (c .plan-pass2 .ensures, ← c .before .before .before .before .before .before .traits-of .ensures, c .before .before .before .if1 .left, ne-eqb _ _ (c .before .if2 .left))
+returns-3 c = rw (c .plan-pass .ensures, c .before .second-word .ensures, ← c .before .before .before .before .before .before .before .before .before .traits-of .ensures, ← c .before .before .before .before .wrapped-sum .ensures, ← c .before .before .before .program-present .ensures, c .before .before .before .before .before .before .if1 .left, c .before .before .if2 .left)
 
 pub plan-instruction-spec : {M : Type 1} → statement M
 plan-instruction-spec =
@@ -56,8 +48,6 @@ plan-instruction-spec =
     program-present-requires
     refuse-requires-2
     returns-2
-    program-word-requires
+    second-word-requires
     plan-pass-requires
-    returns-3
-    plan-pass-requires-2
-    returns-4)
+    returns-3)

@@ -3,9 +3,6 @@ use borrow.Author.Needs.{needs}
 use Rattle.plans.proofs.perform.Statement.{statement}
 use Rattle.plans.proofs.perform.Tie as tie
 
-traits-of-requires : tie.Need-traits-of-requires
-traits-of-requires c κs = search needs
-
 words-read-requires : tie.Need-words-read-requires
 words-read-requires c κs = search needs
 
@@ -26,13 +23,12 @@ write-of-requires c κs = search needs
 
 returns : tie.Need-returns
 unfolding performed passedMachine passedWrite effectOf
-returns c = rw (c .write-of .ensures, c .before .address-of .ensures, c .before .before .follow .ensures, c .before .before .before .before .rule .ensures, c .before .before .before .before .before .after-operand .ensures, c .before .before .before .before .before .before .words-read .ensures, c .before .before .before .before .before .before .before .traits-of .ensures)
+returns c = rw (c .write-of .ensures, c .before .address-of .ensures, c .before .before .follow .ensures, c .before .before .before .before .rule .ensures, c .before .before .before .before .before .after-operand .ensures, c .before .before .before .before .before .before .words-read .ensures)
 
 pub perform-spec : {M : Type 1} → statement M
 perform-spec =
     tie.close
     (tie.spec
-    traits-of-requires
     words-read-requires
     after-operand-requires
     rule-requires
