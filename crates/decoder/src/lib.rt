@@ -3,8 +3,8 @@ ghost use mathlib.Core.Path.{_≡_};
 ghost use Rattle.instructions.specs.Encoding.{lowFits};
 ghost use Rattle.instructions.specs.Decode.{decodeOf};
 ghost use Rattle.instructions.specs.Places.{lowerIn};
-ghost use Rattle.decoder.specs.Kinds.{kindOf, isAddressed, isBranch, placeOfKind, groupOf};
-ghost use Rattle.decoder.specs.Groups.{controlPlace, controls, longPlace};
+ghost use Rattle.kinds.specs.Kinds.{kindOf, isAddressed, isBranch, placeOfKind, groupOf};
+ghost use Rattle.kinds.specs.Groups.{controlPlace, controls, longPlace};
 use instructions::Decoded;
 
 // The kind of each upper byte: the place of its page in the list of section 4.3's pages (0 to 74 are the base's, 75 to 132 the

@@ -8,8 +8,8 @@ use Rattle.instructions.specs.declared.Modification.the-variants.{None, Minus, 
 use Rattle.instructions.specs.declared.Address.{Address}
 use Rattle.instructions.specs.declared.NextArp.{NextArp}
 use Rattle.instructions.specs.declared.NextArp.the-variants.{Same, To}
-use Rattle.encoder.specs.Encode.{modificationBits, nextBits, isIndirect, addressBits}
-use Rattle.encoder.specs.Bits.{fieldAfter, field-after}
+use Rattle.encodings.specs.Encode.{modificationBits, nextBits, isIndirect, addressBits}
+use Rattle.encodings.specs.Bits.{fieldAfter, field-after}
 
 pub modification-lt : (m : Modification) → modificationBits m < 8
 unfolding modificationBits

@@ -1,9 +1,9 @@
 // The encoder: an instruction back to its word. A number above the bits that its page has for it gives its low bits.
 ghost use mathlib.Core.Path.{_≡_};
 ghost use Prim.Native.Nat.{_+_, _*_, _%_};
-ghost use Rattle.encoder.specs.Encode.{modificationBits, nextBits, indirectBits, isIndirect, addressBits};
-ghost use Rattle.encoder.specs.Encode.{accumulatorFields, multiplierFields, auxiliaryFields, branchFields};
-ghost use Rattle.encoder.specs.Encode.{transferFields, modeFields, wordOf, encodeOf};
+ghost use Rattle.encodings.specs.Encode.{modificationBits, nextBits, indirectBits, isIndirect, addressBits};
+ghost use Rattle.encodings.specs.Encode.{accumulatorFields, multiplierFields, auxiliaryFields, branchFields};
+ghost use Rattle.encodings.specs.Encode.{transferFields, modeFields, wordOf, encodeOf};
 use instructions::Accumulator;
 use instructions::Address;
 use instructions::Auxiliary;

@@ -1,5 +1,5 @@
 use borrow.Author.Tests.{lt-ltb, le-ltb, eq-eqb, ne-eqb}
-use Rattle.decoder.specs.Groups.{controlPlace, controls}
+use Rattle.kinds.specs.Groups.{controlPlace, controls}
 use borrow.Author.Needs.{needs}
 use Rattle.decoder.proofs.control_of.Statement.{statement}
 use Rattle.decoder.proofs.control_of.Tie as tie

@@ -1,4 +1,4 @@
-use Rattle.decoder.specs.Kinds.{decode-by-place}
+use Rattle.kinds.specs.Kinds.{decode-by-place}
 use borrow.Author.Needs.{needs}
 use Rattle.decoder.proofs.decode.Statement.{statement}
 use Rattle.decoder.proofs.decode.Tie as tie

@@ -1,5 +1,5 @@
 use mathlib.Core.Path.{_∙_}
-use Rattle.decoder.specs.Groups.{control-place, long-place, long-place-1, group-else}
+use Rattle.kinds.specs.Groups.{control-place, long-place, long-place-1, group-else}
 use borrow.Author.Needs.{needs}
 use Rattle.decoder.proofs.group_page.Statement.{statement}
 use Rattle.decoder.proofs.group_page.Tie as tie

@@ -1,5 +1,5 @@
 use mathlib.Core.Path.{refl}
-use Rattle.decoder.specs.Kinds.{isAddressed}
+use Rattle.kinds.specs.Kinds.{isAddressed}
 use Rattle.decoder.proofs.is_addressed.Statement.{statement}
 use Rattle.decoder.proofs.is_addressed.Tie as tie
 

@@ -1,5 +1,5 @@
 use mathlib.Core.Path.{refl}
-use Rattle.decoder.specs.Kinds.{isBranch}
+use Rattle.kinds.specs.Kinds.{isBranch}
 use Rattle.decoder.proofs.is_branch.Statement.{statement}
 use Rattle.decoder.proofs.is_branch.Tie as tie
 

@@ -1,5 +1,5 @@
 use borrow.Author.Needs.{needs}
-use Rattle.decoder.specs.Table.{kinds, kinds-right}
+use Rattle.kinds.specs.Table.{kinds, kinds-right}
 use Rattle.decoder.proofs.kind_of.Statement.{statement}
 use Rattle.decoder.proofs.kind_of.Tie as tie
 

@@ -1,5 +1,5 @@
 use borrow.Author.Tests.{lt-ltb, le-ltb}
-use Rattle.decoder.specs.Groups.{longPlace}
+use Rattle.kinds.specs.Groups.{longPlace}
 use borrow.Author.Needs.{needs}
 use Rattle.decoder.proofs.long_of.Statement.{statement}
 use Rattle.decoder.proofs.long_of.Tie as tie

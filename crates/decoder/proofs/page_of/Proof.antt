@@ -1,5 +1,5 @@
 use borrow.Author.Tests.{lt-ltb, le-ltb}
-use Rattle.decoder.specs.Kinds.{placeOfKind}
+use Rattle.kinds.specs.Kinds.{placeOfKind}
 use borrow.Author.Needs.{needs}
 use Rattle.decoder.proofs.page_of.Statement.{statement}
 use Rattle.decoder.proofs.page_of.Tie as tie

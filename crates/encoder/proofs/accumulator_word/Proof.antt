@@ -1,6 +1,6 @@
 use mathlib.Core.Path.{refl, sym, _∙_}
-use Rattle.encoder.specs.Encode.{wordOf, accumulatorFields}
-use Rattle.encoder.specs.Bits.{field-after}
+use Rattle.encodings.specs.Encode.{wordOf, accumulatorFields}
+use Rattle.encodings.specs.Bits.{field-after}
 use Rattle.encoder.specs.EncodeLaws.{by-case, of-address, of-selected, of-shifted}
 use borrow.Author.Needs.{needs}
 use Rattle.encoder.proofs.accumulator_word.Statement.{statement}

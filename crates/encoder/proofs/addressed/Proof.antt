@@ -1,6 +1,6 @@
 use mathlib.Core.Path.{_∙_}
 use native.Mathlib.Omega.{arith}
-use Rattle.encoder.specs.Encode.{isIndirect, addressBits}
+use Rattle.encodings.specs.Encode.{isIndirect, addressBits}
 use borrow.Author.Needs.{needs}
 use Rattle.encoder.proofs.addressed.Statement.{statement}
 use Rattle.encoder.proofs.addressed.Tie as tie

@@ -1,6 +1,6 @@
 use mathlib.Core.Path.{sym, _∙_}
-use Rattle.encoder.specs.Encode.{wordOf, auxiliaryFields}
-use Rattle.encoder.specs.Bits.{field-after}
+use Rattle.encodings.specs.Encode.{wordOf, auxiliaryFields}
+use Rattle.encodings.specs.Bits.{field-after}
 use Rattle.encoder.specs.EncodeLaws.{by-case, of-address, of-selected, two-fields}
 use borrow.Author.Needs.{needs}
 use Rattle.encoder.proofs.auxiliary_word.Statement.{statement}

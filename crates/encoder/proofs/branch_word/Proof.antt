@@ -1,6 +1,6 @@
 use mathlib.Core.Path.{refl, sym, _∙_}
-use Rattle.encoder.specs.Encode.{wordOf, branchFields}
-use Rattle.encoder.specs.Bits.{field-after}
+use Rattle.encodings.specs.Encode.{wordOf, branchFields}
+use Rattle.encodings.specs.Bits.{field-after}
 use Rattle.encoder.specs.EncodeLaws.{by-case}
 use borrow.Author.Needs.{needs}
 use Rattle.encoder.proofs.branch_word.Statement.{statement}

@@ -1,4 +1,4 @@
-use Rattle.encoder.specs.Encode.{encodeOf, fieldsOf}
+use Rattle.encodings.specs.Encode.{encodeOf, fieldsOf}
 use Rattle.encoder.specs.EncodeLaws.{by-case}
 use borrow.Author.Needs.{needs}
 use Rattle.encoder.proofs.encode.Statement.{statement}

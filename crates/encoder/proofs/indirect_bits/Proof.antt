@@ -1,6 +1,6 @@
 use borrow.Author.Needs.{needs}
 use native.Mathlib.Omega.{arith}
-use Rattle.encoder.specs.Encode.{indirectBits}
+use Rattle.encodings.specs.Encode.{indirectBits}
 use Rattle.encoder.specs.EncodeLaws.{modification-lt, next-lt}
 use Rattle.encoder.proofs.indirect_bits.Statement.{statement}
 use Rattle.encoder.proofs.indirect_bits.Tie as tie

@@ -1,6 +1,6 @@
 use mathlib.Core.Path.{refl, sym, _∙_}
-use Rattle.encoder.specs.Encode.{wordOf, modeFields}
-use Rattle.encoder.specs.Bits.{field-after}
+use Rattle.encodings.specs.Encode.{wordOf, modeFields}
+use Rattle.encodings.specs.Bits.{field-after}
 use Rattle.encoder.specs.EncodeLaws.{by-case, of-address}
 use borrow.Author.Needs.{needs}
 use Rattle.encoder.proofs.mode_word.Statement.{statement}

@@ -1,4 +1,4 @@
-use Rattle.encoder.specs.Encode.{modificationBits}
+use Rattle.encodings.specs.Encode.{modificationBits}
 use borrow.Author.Needs.{needs}
 use Rattle.encoder.proofs.modification_bits.Statement.{statement}
 use Rattle.encoder.proofs.modification_bits.Tie as tie

@@ -1,6 +1,6 @@
 use mathlib.Core.Path.{refl, sym}
-use Rattle.encoder.specs.Encode.{wordOf, multiplierFields}
-use Rattle.encoder.specs.Bits.{field-after}
+use Rattle.encodings.specs.Encode.{wordOf, multiplierFields}
+use Rattle.encodings.specs.Bits.{field-after}
 use Rattle.encoder.specs.EncodeLaws.{by-case, of-address}
 use borrow.Author.Needs.{needs}
 use Rattle.encoder.proofs.multiplier_word.Statement.{statement}

@@ -1,4 +1,4 @@
-use Rattle.encoder.specs.Encode.{nextBits}
+use Rattle.encodings.specs.Encode.{nextBits}
 use borrow.Author.Needs.{needs}
 use Rattle.encoder.proofs.next_bits.Statement.{statement}
 use Rattle.encoder.proofs.next_bits.Tie as tie

@@ -1,4 +1,4 @@
-use Rattle.encoder.specs.Encode.{wordOf, transferFields}
+use Rattle.encodings.specs.Encode.{wordOf, transferFields}
 use Rattle.encoder.specs.EncodeLaws.{by-case, of-address, of-shifted}
 use borrow.Author.Needs.{needs}
 use Rattle.encoder.proofs.transfer_word.Statement.{statement}

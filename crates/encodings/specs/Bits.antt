@@ -5,7 +5,7 @@ use Prim.Native.String.{String}
 use native.Mathlib.Omega.{arith}
 use native.Mathlib.Nat.{pow-zero, pow-suc, mul-comm, mul-assoc, add-mul, div-one, div-div-eq-div-mul}
 use lib.Pow.{mod-pow-add, shr-shr}
-use Rattle.encoder.specs.Encode.{bitOf, bitsAfter}
+use Rattle.encodings.specs.Encode.{bitOf, bitsAfter}
 
 half : (w k : ℕ) → w / 2 ^ suc k ≡ w / 2 ^ k / 2
 half w k = ap (λ (n : ℕ). w / n) (pow-suc 2 k) ∙ sym (div-div-eq-div-mul w (2 ^ k) 2)

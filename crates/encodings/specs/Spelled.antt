@@ -12,8 +12,8 @@ use borrow.Author.Tests.{lt-ltb, le-ltb}
 use Rattle.instructions.specs.Every.{both-left, both-right, all, all-at, by-order}
 use Rattle.instructions.specs.Encoding.{Row, pick, both, printedAt, allows, fits, widthOf, lowestOf, under, has}
 use Rattle.instructions.specs.Pages.{basePages}
-use Rattle.encoder.specs.Encode.{bitOf, bitsAfter, text, numberOf, printed, wordOf}
-use Rattle.encoder.specs.Bits.{bits-after, bit-of-low, bit-of-field}
+use Rattle.encodings.specs.Encode.{bitOf, bitsAfter, text, numberOf, printed, wordOf}
+use Rattle.encodings.specs.Bits.{bits-after, bit-of-low, bit-of-field}
 
 abbrev pub before : Bool → String → List String → List String
 before true c cs = c ∷ cs

@@ -11,7 +11,7 @@ use borrow.Author.Tests.{ne-eqb}
 use Rattle.instructions.specs.Every.{all, all-at}
 use Rattle.instructions.specs.Encoding.{pick, both, lowFits}
 use Rattle.instructions.specs.Places.{lowerIn, pagesOf}
-use Rattle.decoder.specs.Kinds.{groupOf}
+use Rattle.kinds.specs.Kinds.{groupOf}
 
 -- CEh: a list for the low bytes below 64, CMPR and NORM
 unfoldable pub controlPlace : List ℕ → ℕ → ℕ

@@ -4,7 +4,7 @@ use mathlib.Core.List.{List, [], _∷_}
 use Prim.Native.Nat.{ℕ, _<_}
 use lib.ListN.{getD}
 use Rattle.instructions.specs.Places.{pagesOf}
-use Rattle.decoder.specs.Kinds.{kindOf, rightTable, table-right}
+use Rattle.kinds.specs.Kinds.{kindOf, rightTable, table-right}
 
 -- sixteen upper bytes a row
 unfoldable pub kinds : List ℕ

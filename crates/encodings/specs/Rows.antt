@@ -9,8 +9,8 @@ use Rattle.instructions.specs.Encoding.{Row, pick, under, means, addressOf, ind
 use Rattle.instructions.specs.Pages.{basePages}
 use Rattle.instructions.specs.declared.Decoded.{Decoded}
 use Rattle.instructions.specs.declared.Decoded.the-variants.{Base, Published, Nothing}
-use Rattle.encoder.specs.Encode.{text, isIndirect, addressBits, indirectBits, fieldsOf, accumulatorFields, multiplierFields, auxiliaryFields, branchFields, transferFields, modeFields}
-use Rattle.encoder.specs.Spelled.{letters, read}
+use Rattle.encodings.specs.Encode.{text, isIndirect, addressBits, indirectBits, fieldsOf, accumulatorFields, multiplierFields, auxiliaryFields, branchFields, transferFields, modeFields}
+use Rattle.encodings.specs.Spelled.{letters, read}
 
 -- the page and the fields of what a word is
 unfoldable pub fields : Decoded → String × List (String × ℕ)

@@ -19,10 +19,10 @@ use Rattle.meanings.specs.Past.{past-base, past-pages}
 use Rattle.instructions.specs.declared.Instruction.{Instruction}
 use Rattle.instructions.specs.declared.Decoded.{Decoded}
 use Rattle.instructions.specs.declared.Decoded.the-variants.{Base, Published, Nothing}
-use Rattle.encoder.specs.Encode.{text, isIndirect, addressBits, indirectBits, wordOf, encodeOf}
-use Rattle.encoder.specs.Spelled.{framed, everyRow, all-framed, read, word-back}
-use Rattle.encoder.specs.Rows.{fields, isOperand, isBranch, unread, plain-rows, operand-rows, branch-rows, same-rows}
-use Rattle.encoder.specs.Cleared.{cleared, lowTest, low-test, operandFields, branchOperand, operands-tested, branches-tested, same-operand, clearedWord, cleared-lt, cleared-low, cleared-upper}
+use Rattle.encodings.specs.Encode.{text, isIndirect, addressBits, indirectBits, wordOf, encodeOf}
+use Rattle.encodings.specs.Spelled.{framed, everyRow, all-framed, read, word-back}
+use Rattle.encodings.specs.Rows.{fields, isOperand, isBranch, unread, plain-rows, operand-rows, branch-rows, same-rows}
+use Rattle.encodings.specs.Cleared.{cleared, lowTest, low-test, operandFields, branchOperand, operands-tested, branches-tested, same-operand, clearedWord, cleared-lt, cleared-low, cleared-upper}
 
 -- a word of a page that decodes to what w decodes to there, and that is the word of it
 record Kept (r : Row) (w : ℕ) : Type 0 where
