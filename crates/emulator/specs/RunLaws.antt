@@ -10,6 +10,7 @@ use Rattle.machine.specs.Range.{inRange}
 use Rattle.answers.specs.declared.Answer.{Answer}
 use Rattle.answers.specs.declared.Answer.the-variants.{Done, CellOutOfRange, SlicesUnfit}
 use Rattle.answers.specs.Numbers.{isDone}
+use Rattle.answers.specs.NumberLaws.{done-is}
 use Rattle.slices.specs.Slices.{slicesFit}
 use Rattle.plans.specs.declared.Plan.{Plan}
 use Rattle.refusals.specs.Rows.{row, firstGiven}
@@ -18,7 +19,7 @@ use Rattle.plans.specs.Pass.{refused}
 use Rattle.plans.specs.StoreLaws.{WriteFits}
 use Rattle.steps.specs.World.{World, Outcome, RunOutcome}
 use Rattle.steps.specs.Table.{checksOf}
-use Rattle.steps.specs.Step.{planOf, stored, stepOf, runOf}
+use Rattle.steps.specs.Step.{planOf, stored, stepOf, runOf, oneMore}
 use Rattle.steps.specs.Stages.{fetchPlan, stages}
 use Rattle.steps.specs.StepLaws.{step-fits, Running, running-begins, running-goes, running-stops, running-ends}
 use Rattle.ranges.specs.Ranges.{WordsFit, WordSized, WorldInRange}
@@ -68,7 +69,7 @@ module _ (rom d input : List ℕ) (o : ℕ) (m : Machine) where
 
 module _ (rom input : List ℕ) where
   -- the checks of a world
-  abbrev checksIn : World → Answer
+  abbrev pub checksIn : World → Answer
   checksIn w = checksOf rom (w .«data») input (length (w .output)) (w .m)
 
   pub refused-step : (w : World) → isDone (checksIn w) ≡ false → stepOf rom input w ≡ record { world = w; answer = checksIn w }
@@ -119,3 +120,29 @@ module _ (rom input : List ℕ) (budget : ℕ) (w : World) where
         running = running-begins rom input budget w;
         in-range = record { in-range = b .0; slices-fit = b .1; sized = sized; rom-words = r; input-words = i; data-words = d; output-words = o };
       }
+
+-- ---- a run of one step is that step
+
+-- what a run leaves, without its count
+abbrev pub outcomeOf : RunOutcome → Outcome
+outcomeOf r = record { world = r .world; answer = r .answer }
+
+module _ (rom input : List ℕ) (w : World) where
+  last-done : (a : Answer) → isDone a ≡ true → checksIn rom input (stepOf rom input w .world) ≡ Done → stepOf rom input w .answer ≡ a
+      → outcomeOf (oneMore (runOf rom input 0 (stepOf rom input w .world))) ≡ stepOf rom input w
+  unfolding runOf
+  last-done a d k e = ap (λ (x : Answer). record { world = stepOf rom input w .world; answer = x }) (k ∙ sym (e ∙ done-is a d))
+
+  one-checked : WorldInRange rom input w → (t : Bool) → isDone (stepOf rom input w .answer) ≡ t
+      → outcomeOf (runOf rom input 1 w) ≡ stepOf rom input w
+  unfolding runOf
+  one-checked k true e = rw e (last-done _ e (in-range-checks rom input (stepOf rom input w .world) (step-in-range rom input w k)) refl)
+  one-checked k false e = rw e refl
+
+  one-by : (t : Bool) → isDone (checksIn rom input w) ≡ t → (isDone (checksIn rom input w) ≡ true → WorldInRange rom input w)
+      → outcomeOf (runOf rom input 1 w) ≡ stepOf rom input w
+  one-by true e f = one-checked (f e) (isDone (stepOf rom input w .answer)) refl
+  one-by false e f = rw (refused-run rom input 1 w e, refused-step rom input w e) refl
+
+  pub one-step : (isDone (checksIn rom input w) ≡ true → WorldInRange rom input w) → outcomeOf (runOf rom input 1 w) ≡ stepOf rom input w
+  one-step f = one-by (isDone (checksIn rom input w)) refl f

@@ -80,16 +80,6 @@ fn check(m: Machine, rom: &[u16], data: &[u16], input: &[u16], output_length: us
     Answer::Done
 }
 
-pub fn step(m: Machine, rom: &[u16], data: &mut [u16], input: &[u16], output: &mut [u16]) -> Stepped
-    ensures { λ r. ⌜ stepped r (now («data» .exit)) (now (output .exit)) ≡ stepOf (now (rom .entry)) (now (input .entry)) (record { m = m; «data» = now («data» .entry); output = now (output .entry) }) ⌝ }
-{
-    let checked = check(m, rom, &data[..], input, output.len());
-    if !is_done(checked) {
-        return Stepped { m, answer: checked };
-    }
-    checked_step(m, rom, data, input, output)
-}
-
 // Checks 1 and 2 are made once: no step that is done leaves a machine that fails them (`step-in-range`).
 pub fn run(
     m: Machine,
@@ -132,4 +122,14 @@ pub fn run(
         n = s.m;
         steps += 1;
     }
+}
+
+// A run of one step: checks 1 and 2, and the step.
+pub fn step(m: Machine, rom: &[u16], data: &mut [u16], input: &[u16], output: &mut [u16]) -> Stepped
+    ensures { λ r. ⌜ stepped r (now («data» .exit)) (now (output .exit)) ≡ stepOf (now (rom .entry)) (now (input .entry)) (record { m = m; «data» = now («data» .entry); output = now (output .entry) }) ⌝ }
+{
+    let ran = run(m, rom, data, input, output, 1);
+    let n = ran.m;
+    let answer = ran.answer;
+    Stepped { m: n, answer }
 }
