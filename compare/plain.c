@@ -219,6 +219,18 @@ const char *plain_name(uint16_t word)
     return row == NULL ? "" : row->name;
 }
 
+unsigned plain_words(uint16_t word)
+{
+    const struct row *row = find_row(word);
+    return row == NULL ? 0 : row->words;
+}
+
+int plain_has_address(uint16_t word)
+{
+    const struct row *row = find_row(word);
+    return row != NULL && row->field != PLAIN;
+}
+
 int plain_matches(uint16_t word)
 {
     int found = 0;

@@ -112,6 +112,12 @@ int plain_decode(uint16_t word);
 /* The name of a word's page, or "" for a word in no encoding. */
 const char *plain_name(uint16_t word);
 
+/* How many words an instruction has, 0 for a word in no encoding. */
+unsigned plain_words(uint16_t word);
+
+/* Whether the low byte is an address field, direct or indirect. */
+int plain_has_address(uint16_t word);
+
 /* How many encodings a word is in: 0 or 1 if the table is right. */
 int plain_matches(uint16_t word);
 

@@ -1,0 +1,30 @@
+/* The kinds of cases, each with its own sequence for every case's number. */
+#ifndef CASES_H
+#define CASES_H
+
+#include <stdint.h>
+
+enum { KIND_STEP = 1, KIND_RUN, KIND_FILE, KIND_VIEW, KIND_WORD };
+
+/* One step of every word, from a state drawn by chance. */
+void compare_words(uint64_t seed);
+
+/* Single steps from states drawn by chance. */
+void compare_steps(uint64_t seed, uint64_t cases);
+
+/* Whole runs of programs drawn by chance. */
+void compare_runs(uint64_t seed, uint64_t cases);
+
+/* Run files, good and damaged: read, set up, written. */
+void compare_files(uint64_t seed, uint64_t cases);
+
+/* Fetch windows, words sent and resets. */
+void compare_views(uint64_t seed, uint64_t cases);
+
+/* Steps per second of both emulators. Gives the program's exit. */
+int measure_speed(void);
+
+/* One run of a workload, 0 to 2, on the plain (0) or proved (1) side. */
+int run_once(uint64_t load, uint64_t side, uint64_t budget);
+
+#endif

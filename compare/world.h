@@ -1,0 +1,80 @@
+/*
+ * A world lent to both emulators: what they only read once, what they may
+ * change twice. "plain" is this folder's interpreter, "proved" the library.
+ */
+#ifndef WORLD_H
+#define WORLD_H
+
+#include "draw.h"
+#include "plain.h"
+
+/* Some room behind every slice, so that a store past its end shows. */
+enum {
+    CELL_ROOM = 40,
+    MEMORY_ROOM = 4096 + 64,
+    PORT_ROOM = 1024 + 64,
+    WIDE_ROOM = 65536 + 4096 /* a length whose low 16 bits are right */
+};
+
+struct side {
+    union {
+        struct plain_machine machine;
+        uint32_t cells[CELL_ROOM];
+    };
+    uint16_t data[MEMORY_ROOM];
+    uint16_t output[PORT_ROOM];
+};
+
+struct world {
+    uint16_t rom[MEMORY_ROOM];
+    uint16_t input[PORT_ROOM];
+    size_t cells_length;
+    size_t rom_length;
+    size_t data_length;
+    size_t input_length;
+    size_t output_length;
+    struct side plain;
+    struct side proved;
+};
+
+struct outcome {
+    uint32_t answer;
+    uint32_t steps; /* of a run */
+};
+
+/* One step or one run of one emulator. Cells that are not 34 are answer 2. */
+struct outcome step_plain(struct world *w);
+struct outcome step_proved(struct world *w);
+struct outcome run_plain(struct world *w, uint16_t budget);
+struct outcome run_proved(struct world *w, uint16_t budget);
+
+/* The slice that is lent: the own words, or a wide one if they are too few. */
+const uint16_t *lent_rom(const struct world *w);
+uint16_t *lent_data(const struct world *w, struct side *side);
+
+bool outcomes_same(struct outcome plain, struct outcome proved);
+bool sides_same(const struct world *w);
+
+/* The proved side takes what the plain side has. */
+void sides_level(struct world *w);
+
+/* Whether the wide slices, which nobody may change, are as they were. */
+bool wide_untouched(void);
+
+/* The word of program memory at an address, on both sides. */
+void put_program(struct world *w, uint32_t address, uint16_t word);
+uint32_t program_word(const struct world *w, uint32_t address);
+
+/* A data word on both sides. */
+void put_data(struct world *w, uint32_t address, uint16_t word);
+
+/* Cells in their ranges, on the plain side. */
+void draw_cells(struct draw *d, struct plain_machine *m);
+
+/* Right lengths, and cursors that go with them. */
+void draw_slices(struct draw *d, struct world *w);
+
+/* Puts a cell out of its range or a length against the rules. */
+void spoil(struct draw *d, struct world *w);
+
+#endif

@@ -1,0 +1,79 @@
+-- The machine's cells as 34 numbers, in the order of document 01, "The cells of the machine".
+use mathlib.Core.List.{List, [], _∷_, _++_}
+use Prim.Native.Nat.{ℕ, _+_, _%_}
+use lib.ListN.{getD}
+use Rattle.machine.specs.declared.Machine.{Machine}
+
+-- "ACC and P (32 bits), T, PC, PFC"
+unfoldable pub firstCells : Machine → List ℕ
+firstCells m = m .acc ∷ m .p ∷ m .t ∷ m .pc ∷ m .pfc ∷ []
+
+-- "ARP and ARB (0 to 7), DP (0 to 511), PM (0 to 3), OV, OVM, SXM, C, CNF and MID (0 or 1), RPTC (0 to 255)"
+unfoldable pub pointerCells : Machine → List ℕ
+pointerCells m =
+    m .arp
+    ∷ m .arb
+    ∷ m .dp
+    ∷ m .pm
+    ∷ m .ov
+    ∷ m .ovm
+    ∷ m .sxm
+    ∷ m .c
+    ∷ m .cnf
+    ∷ m .mid
+    ∷ m .rptc
+    ∷ []
+
+-- "input and output cursors (0 to 1,024)"
+unfoldable pub cursorCells : Machine → List ℕ
+cursorCells m = m .«input_cursor» ∷ m .«output_cursor» ∷ []
+
+-- the 34 numbers of a machine; of the stack the top is first
+unfoldable pub cellsOf : Machine → List ℕ
+cellsOf m = firstCells m ++ (m .ar ++ (pointerCells m ++ (m .stack .words ++ cursorCells m)))
+
+-- the number in a cell, as a cell of 16 bits or of 8 holds it; a number that passes check 1 is held as it is
+abbrev pub wordAt : List ℕ → ℕ → ℕ
+wordAt cells i = getD cells i 0 % 65536
+
+abbrev pub smallAt : List ℕ → ℕ → ℕ
+smallAt cells i = getD cells i 0 % 256
+
+-- eight words from a place on
+unfoldable pub eightAt : List ℕ → ℕ → List ℕ
+eightAt cells i =
+    wordAt cells i
+    ∷ wordAt cells (i + 1)
+    ∷ wordAt cells (i + 2)
+    ∷ wordAt cells (i + 3)
+    ∷ wordAt cells (i + 4)
+    ∷ wordAt cells (i + 5)
+    ∷ wordAt cells (i + 6)
+    ∷ wordAt cells (i + 7)
+    ∷ []
+
+-- the machine of 34 numbers
+unfoldable pub machineOf : List ℕ → Machine
+machineOf cells =
+    record {
+      stack = record { words = eightAt cells 24 };
+      acc = getD cells 0 0;
+      p = getD cells 1 0;
+      t = wordAt cells 2;
+      pc = wordAt cells 3;
+      pfc = wordAt cells 4;
+      ar = eightAt cells 5;
+      arp = smallAt cells 13;
+      arb = smallAt cells 14;
+      dp = wordAt cells 15;
+      pm = smallAt cells 16;
+      ov = smallAt cells 17;
+      ovm = smallAt cells 18;
+      sxm = smallAt cells 19;
+      c = smallAt cells 20;
+      cnf = smallAt cells 21;
+      mid = smallAt cells 22;
+      rptc = wordAt cells 23;
+      «input_cursor» = wordAt cells 32;
+      «output_cursor» = wordAt cells 33;
+    }

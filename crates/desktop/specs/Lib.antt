@@ -1,0 +1,6 @@
+-- definitions
+pub mod Calls
+-- laws
+pub mod CallLaws
+pub mod ShownLaws
+pub mod RefusalLaws

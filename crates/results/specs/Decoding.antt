@@ -1,0 +1,14 @@
+-- One possible result of each exported function: decoding.
+use Rattle.meanings.proofs.meaning.Reads as Meaning
+use Rattle.decoder.proofs.decode.Reads as Decode
+use Rattle.encoder.proofs.encode.Reads as Encode
+use Rattle.results.specs.One.{OneResult, same}
+
+pub meaning : OneResult Meaning.Post
+meaning κs a r r′ e e′ p q = same p q
+
+pub decode : OneResult Decode.Post
+decode κs a r r′ e e′ p q = same p q
+
+pub encode : OneResult Encode.Post
+encode κs a r r′ e e′ p q = same p q

@@ -1,0 +1,58 @@
+-- One possible result of each exported function: the library for C.
+use Rattle.cells.proofs.length_answer.Reads as LengthAnswer
+use Rattle.cells.proofs.cells_answer.Reads as CellsAnswer
+use Rattle.cells.proofs.machine_of.Reads as MachineOf
+use Rattle.cells.proofs.put_cells.Reads as PutCells
+use Rattle.desktop.proofs.files.crowmitten_read.Reads as CrowmittenRead
+use Rattle.desktop.proofs.files.crowmitten_set_up.Reads as CrowmittenSetUp
+use Rattle.desktop.proofs.files.crowmitten_write.Reads as CrowmittenWrite
+use Rattle.desktop.proofs.running.crowmitten_reset.Reads as CrowmittenReset
+use Rattle.desktop.proofs.running.crowmitten_step.Reads as CrowmittenStep
+use Rattle.desktop.proofs.running.crowmitten_run.Reads as CrowmittenRun
+use Rattle.desktop.proofs.sent.crowmitten_words_sent.Reads as CrowmittenWordsSent
+use Rattle.desktop.proofs.window.crowmitten_window.Reads as CrowmittenWindow
+use Rattle.setting_up.specs.SetUp.{lent}
+use Rattle.desktop.specs.Calls.{Called, RunCalled, called, counted, placed}
+use Prim.Native.Nat.{ℕ}
+use denote.Ref.{now}
+use Rattle.results.specs.One.{OneOutcome, OneResult, pair, same, both}
+
+-- what a call of `run` shows
+abbrev runShown : ℕ → Called → RunCalled
+runShown steps after = record { steps = steps; after = after }
+
+pub length-answer : OneResult LengthAnswer.Post
+length-answer κs a r r′ e e′ p q = same p q
+
+pub cells-answer : OneResult CellsAnswer.Post
+cells-answer κs a r r′ e e′ p q = same p q
+
+pub machine-of : OneResult MachineOf.Post
+machine-of κs a r r′ e e′ p q = same p q
+
+pub put-cells : OneOutcome PutCells.Post (λ r e. now (e .0))
+put-cells κs a r r′ e e′ p q = same p q
+
+pub crowmitten-read : OneOutcome CrowmittenRead.Post (λ r e. pair r (pair (now (e .1 .0)) (now (e .1 .1 .0))))
+crowmitten-read κs a r r′ e e′ p q = both (same (p .0) (q .0)) (both (same (p .1 .0) (q .1 .0)) (same (p .1 .1) (q .1 .1)))
+
+pub crowmitten-set-up : OneOutcome CrowmittenSetUp.Post (λ r e. pair r (lent (now (e .1 .0)) (now (e .1 .1 .0)) (now (e .1 .1 .1 .0))))
+crowmitten-set-up κs a r r′ e e′ p q = both (same (p .0) (q .0)) (same (p .1) (q .1))
+
+pub crowmitten-write : OneOutcome CrowmittenWrite.Post (λ r e. pair r (pair (now (e .1 .1 .1 .1 .0)) (now (e .1 .1 .1 .1 .1 .0))))
+crowmitten-write κs a r r′ e e′ p q = both (same (p .0) (q .0)) (both (same (p .1 .0) (q .1 .0)) (same (p .1 .1) (q .1 .1)))
+
+pub crowmitten-reset : OneOutcome CrowmittenReset.Post (λ r e. pair r (now (e .0)))
+crowmitten-reset κs a r r′ e e′ p q = both (same (p .0) (q .0)) (same (p .1) (q .1))
+
+pub crowmitten-step : OneOutcome CrowmittenStep.Post (λ r e. called r (now (e .0)) (now (e .1 .1 .0)) (now (e .1 .1 .1 .1 .0)))
+crowmitten-step κs a r r′ e e′ p q = same p q
+
+pub crowmitten-run : OneOutcome CrowmittenRun.Post (λ r e. runShown (now (e .1 .1 .1 .1 .1 .1 .0)) (called r (now (e .0)) (now (e .1 .1 .0)) (now (e .1 .1 .1 .1 .0))))
+crowmitten-run κs a r r′ e e′ p q = same p q
+
+pub crowmitten-words-sent : OneOutcome CrowmittenWordsSent.Post (λ r e. counted r (now (e .1 .1 .0)))
+crowmitten-words-sent κs a r r′ e e′ p q = same p q
+
+pub crowmitten-window : OneOutcome CrowmittenWindow.Post (λ r e. placed r (now (e .1 .1 .1 .1 .0)) (now (e .1 .1 .1 .1 .1 .0)) (now (e .1 .1 .1 .1 .1 .1 .0)))
+crowmitten-window κs a r r′ e e′ p q = same p q
