@@ -118,7 +118,7 @@ uint32_t crowmitten_read(const uint8_t *bytes, size_t bytes_length,
 
 /*
  * Every word of both memories and of input from a run file: 0, 20, 21, 22, or
- * 2 if input_length is not the file's input count.
+ * 2 if a memory is not of 4,096 words or input_length is not the file's count.
  */
 uint32_t crowmitten_set_up(const uint8_t *bytes, size_t bytes_length,
                            uint16_t *rom, size_t rom_length,

@@ -129,7 +129,7 @@ pub fn step(m: Machine, rom: &[u16], data: &mut [u16], input: &[u16], output: &m
     ensures { λ r. ⌜ stepped r (now («data» .exit)) (now (output .exit)) ≡ stepOf (now (rom .entry)) (now (input .entry)) (record { m = m; «data» = now («data» .entry); output = now (output .entry) }) ⌝ }
 {
     let ran = run(m, rom, data, input, output, 1);
-    let n = ran.m;
+    let after = ran.m;
     let answer = ran.answer;
-    Stepped { m: n, answer }
+    Stepped { m: after, answer }
 }
