@@ -7,6 +7,7 @@ use instructions::NextArp;
 use machine::Machine;
 use traits::Operand;
 ghost use mathlib.Core.Path.{_≡_};
+ghost use mathlib.Core.Bool.{cond};
 ghost use Rattle.machine.specs.Cells.{register, withRegister};
 ghost use Rattle.addressing.specs.Addressing.{moved, pointed, modified, addressed, addressOf};
 
@@ -18,15 +19,29 @@ pub fn register_of(m: Machine, i: u8) -> u16
     if at < 8 { registers[at] } else { 0 }
 }
 
+fn word_or(here: bool, word: u16, old: u16) -> u16
+    ensures { λ r. ⌜ r ≡ cond here word old ⌝ }
+{
+    if here { word } else { old }
+}
+
+// Each register by itself: the compiler keeps an array in memory that is written at a number known only then.
 pub fn with_register(m: Machine, i: u8, word: u16) -> Machine
     ensures { λ r. ⌜ r ≡ withRegister m i word ⌝ }
 {
-    let at = i as usize;
+    let a = m.ar;
+    let registers = [
+        word_or(i == 0, word, a[0]),
+        word_or(i == 1, word, a[1]),
+        word_or(i == 2, word, a[2]),
+        word_or(i == 3, word, a[3]),
+        word_or(i == 4, word, a[4]),
+        word_or(i == 5, word, a[5]),
+        word_or(i == 6, word, a[6]),
+        word_or(i == 7, word, a[7]),
+    ];
     let mut n = m;
-    if at < 8 {
-        n.ar[at] = word;
-        return n;
-    }
+    n.ar = registers;
     n
 }
 

@@ -137,7 +137,10 @@ fn mac(m: Machine, w: u16, table: u16, at: u16) -> Machine
 fn macd(m: Machine, w: u16, table: u16, at: u16) -> Machine
     ensures { λ r. ⌜ r ≡ MACD w table at m ⌝ }
 {
-    mac(m, w, table, at)
+    // As in `mac`: a function called from two places is not compiled into them.
+    let mut moved = with_p(with_t(apac(m), w), products::product(w, table));
+    moved.pfc = registers::wrapped_sum(at, 1);
+    moved
 }
 
 fn spl(m: Machine) -> u16

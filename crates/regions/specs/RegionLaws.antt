@@ -23,10 +23,10 @@ case P false x rest f r = r
 pub region-lies : (cnf a : ℕ) → Lies cnf a (dataRegion cnf a)
 unfolding dataRegion
 region-lies cnf a =
-    case (Lies cnf a) _ B2 _ (bounds 0x60 0x7F a)
+    case (Lies cnf a) _ External _ (bounds 0x400 0xFFF a)
+    (case (Lies cnf a) _ B2 _ (bounds 0x60 0x7F a)
     (case (Lies cnf a) _ B0 _ (λ h. let p = both (within 0x200 0x2FF a) _ h in let b = bounds 0x200 0x2FF a (p .0) in (b .0, b .1, eqb-true _ _ (p .1)))
-    (case (Lies cnf a) _ B1 _ (bounds 0x300 0x3FF a)
-    (case (Lies cnf a) _ External Absent (bounds 0x400 0xFFF a) tt)))
+    (case (Lies cnf a) _ B1 Absent (bounds 0x300 0x3FF a) tt)))
 
 lies-below : (cnf a : ℕ) (r : Region) → Lies cnf a r → present r ≡ true → a < 4096
 lies-below cnf a Absent l h = absurd (false≢true h)

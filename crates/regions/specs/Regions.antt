@@ -12,10 +12,10 @@ within first last address = leb first address && leb address last
 -- B0 is in data space where CNF is 0. Check 1 leaves only 0 and 1; with any other number B0 is in neither space.
 unfoldable pub dataRegion : ℕ → ℕ → Region
 dataRegion cnf address =
-    cond (within 0x60 0x7F address) B2
+    cond (within 0x400 0xFFF address) External
+    (cond (within 0x60 0x7F address) B2
     (cond (within 0x200 0x2FF address && eqb cnf 0) B0
     (cond (within 0x300 0x3FF address) B1
-    (cond (within 0x400 0xFFF address) External
     Absent)))
 
 abbrev pub present : Region → Bool

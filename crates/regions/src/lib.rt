@@ -2,7 +2,7 @@
 ghost use mathlib.Core.Path.{_≡_};
 ghost use Rattle.regions.specs.Regions.{present, onChipRegion, dataRegion, dataPresent, onChip, moveAllowed, inRom, inProgramB0, programPresent};
 
-// Where a data address lies. One function, data_region, knows the ranges.
+// Where a data address lies. One function, data_region, knows the ranges, and asks first for the one that frames lie in.
 pub enum Region {
     Absent,
     B2,
@@ -38,6 +38,9 @@ pub fn region_on_chip(region: Region) -> bool
 pub fn data_region(cnf: u8, address: u16) -> Region
     ensures { λ r. ⌜ r ≡ dataRegion cnf address ⌝ }
 {
+    if (address >= 0x400) & (address <= 0xFFF) {
+        return Region::External;
+    }
     if (address >= 0x60) & (address <= 0x7F) {
         return Region::B2;
     }
@@ -46,9 +49,6 @@ pub fn data_region(cnf: u8, address: u16) -> Region
     }
     if (address >= 0x300) & (address <= 0x3FF) {
         return Region::B1;
-    }
-    if (address >= 0x400) & (address <= 0xFFF) {
-        return Region::External;
     }
     Region::Absent
 }

@@ -1,4 +1,5 @@
 -- definitions
 pub mod Stack
 -- laws
+pub mod Eight
 pub mod StackLaws

@@ -31,13 +31,13 @@ pub enum Port {
 }
 
 pub struct Traits {
-    pub operand: Operand,
     pub words: u16,
+    pub port: Port,
     pub repeatable: bool,
     pub access: Access,
     // A MAC or MACD reads a program word besides.
     pub table: bool,
-    pub port: Port,
+    pub operand: Operand,
 }
 
 fn plain_traits() -> Traits

@@ -1,4 +1,4 @@
-use Rattle.stack.proofs.Eight.{pops}
+use Rattle.stack.proofs.Moves.{pops}
 use borrow.Author.Needs.{needs}
 use Rattle.stack.proofs.popped.Statement.{statement}
 use Rattle.stack.proofs.popped.Tie as tie

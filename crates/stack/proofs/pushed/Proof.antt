@@ -1,4 +1,4 @@
-use Rattle.stack.proofs.Eight.{pushes}
+use Rattle.stack.proofs.Moves.{pushes}
 use borrow.Author.Needs.{needs}
 use Rattle.stack.proofs.pushed.Statement.{statement}
 use Rattle.stack.proofs.pushed.Tie as tie
