@@ -73,6 +73,6 @@ performed t i second rom «data» input m = record {
 
 unfoldable pub passPlan : Traits → Instruction → ℕ → List ℕ → List ℕ → List ℕ → ℕ → Machine → Plan
 passPlan t i second rom «data» input outputLength m =
-    cond (isDone (passRefusal t second outputLength m))
+    cond (isDone (passRefusal t (addressOf (t .operand) m) second outputLength m))
     (performed t i second rom «data» input m)
-    (refused m (passRefusal t second outputLength m))
+    (refused m (passRefusal t (addressOf (t .operand) m) second outputLength m))

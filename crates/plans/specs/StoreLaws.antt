@@ -180,7 +180,7 @@ moved-fits : (allowed : Bool) (cnf address word size : ℕ) → moveAllowed cnf 
 moved-fits true cnf address word size e h = let b = moves cnf address e in (h, omega (arith, b .below))
 moved-fits false cnf address word size e h = tt
 
-write-fits-for : (t : Traits) (store : Store) (m : Machine) (cursor size : ℕ) → StoreFits (t .access) store → size ≡ 4096 → dataAbsent t m ≡ false
+write-fits-for : (t : Traits) (store : Store) (m : Machine) (cursor size : ℕ) → StoreFits (t .access) store → size ≡ 4096 → dataAbsent t (addressOf (t .operand) m) m ≡ false
     → WriteFits (writeOf store (m .cnf) (addressOf (t .operand) m) cursor) size
 unfolding writeOf dataAbsent
 write-fits-for t Left.Nothing m cursor size f h a = tt
@@ -190,7 +190,7 @@ write-fits-for t (Left.Move word) m cursor size f h a = moved-fits (moveAllowed 
 write-fits-for t (Left.Sent word) m cursor size f h a = tt
 
 -- the store of a pass that 6 does not refuse
-pub write-fits : (i : Instruction) (second : ℕ) (rom d input : List ℕ) (m : Machine) → length d ≡ 4096 → dataAbsent (traitsOf i) m ≡ false
+pub write-fits : (i : Instruction) (second : ℕ) (rom d input : List ℕ) (m : Machine) → length d ≡ 4096 → dataAbsent (traitsOf i) (addressOf (traitsOf i .operand) m) m ≡ false
     → WriteFits (passedWrite (traitsOf i) i second rom d input m) (length d)
 unfolding passedWrite effectOf
 write-fits i second rom d input m h a = write-fits-for (traitsOf i) _ m (m .«output_cursor») (length d) (store-fits i m _ _) h a

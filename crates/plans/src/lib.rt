@@ -16,6 +16,7 @@ use traits::Access;
 use traits::Traits;
 ghost use mathlib.Core.Path.{_≡_};
 ghost use lib.ListN.{getD};
+ghost use Rattle.addressing.specs.Addressing.{addressOf};
 ghost use Rattle.windows.specs.Windows.{programWord};
 ghost use Rattle.plans.specs.Pass.{readWord, wordsRead, refused, performed, passPlan};
 
@@ -52,17 +53,18 @@ pub fn program_word<'a>(cnf: u8, at: u16, rom: &'a [u16], data: &'a [u16]) -> u1
 
 fn words_read<'a>(
     t: Traits,
+    address: u32,
     second: u16,
     rom: &'a [u16],
     data: &'a [u16],
     input: &[u16],
     m: Machine,
 ) -> Words
+    requires { ⌜ address ≡ addressOf (t .operand) m ⌝ }
     ensures { λ r. ⌜ r ≡ wordsRead t second (now (rom .entry)) (now («data» .entry)) (now (input .entry)) m ⌝ }
 {
-    let operand = t.operand;
     let access = t.access;
-    let word = read_word(access, data, address_of(m, operand));
+    let word = read_word(access, data, address);
     let at = table_address(m, second);
     let next = slices::input_word(input, m.input_cursor);
     let dry = slices::port_spent(input.len(), m.input_cursor);
@@ -97,26 +99,28 @@ fn refuse(m: Machine, answer: Answer) -> Plan
     }
 }
 
-// A pass that nothing refuses.
+// A pass that nothing refuses, of an operand at its address.
 fn perform<'a>(
     i: Instruction,
     t: Traits,
+    address: u32,
     second: u16,
     rom: &'a [u16],
     data: &'a [u16],
     input: &[u16],
     m: Machine,
 ) -> Plan
+    requires { ⌜ address ≡ addressOf (t .operand) m ⌝ }
     ensures { λ r. ⌜ r ≡ performed t i second (now (rom .entry)) (now («data» .entry)) (now (input .entry)) m ⌝ }
 {
     let operand = t.operand;
-    let words = words_read(t, second, rom, data, input, m);
+    let words = words_read(t, address, second, rom, data, input, m);
     let e = rule(i, m, after_operand(m, operand), words);
     let after = e.m;
     let jump = e.jump;
     let store = e.store;
     let n = follow(after, jump, t.words, t.repeatable);
-    let write = write_of(store, m.cnf, address_of(m, operand), m.output_cursor);
+    let write = write_of(store, m.cnf, address, m.output_cursor);
     Plan {
         m: n,
         answer: Answer::Done,
@@ -137,9 +141,11 @@ pub fn plan_pass<'a>(
 ) -> Plan
     ensures { λ r. ⌜ r ≡ passPlan t i second (now (rom .entry)) (now («data» .entry)) (now (input .entry)) «output_length» m ⌝ }
 {
-    let answer = pass_refusal(t, second, output_length, m);
+    let operand = t.operand;
+    let address = address_of(m, operand);
+    let answer = pass_refusal(t, address, second, output_length, m);
     if is_done(answer) {
-        return perform(i, t, second, rom, data, input, m);
+        return perform(i, t, address, second, rom, data, input, m);
     }
     refuse(m, answer)
 }

@@ -11,7 +11,6 @@ use Rattle.traits.specs.declared.Access.the-variants as Access
 use Rattle.traits.specs.declared.Port.{Port}
 use Rattle.traits.specs.declared.Port.the-variants as Port
 use Rattle.traits.specs.declared.Traits.{Traits}
-use Rattle.addressing.specs.Addressing.{addressOf}
 use Rattle.multiplier.specs.Pages.{tableAddress}
 use Rattle.regions.specs.Regions.{dataPresent, programPresent}
 use Rattle.slices.specs.Slices.{portSpent}
@@ -35,12 +34,12 @@ sends (Port.Input port) = false
 sends (Port.Output port) = true
 
 -- "a direct address above 65,535"; an indirect one is a register's
-unfoldable pub addressAbove : Traits → Machine → Bool
-addressAbove t m = accesses (t .access) && ltb 65535 (addressOf (t .operand) m)
+unfoldable pub addressAbove : Traits → ℕ → Bool
+addressAbove t address = accesses (t .access) && ltb 65535 address
 
 -- "data address read or written is absent"
-unfoldable pub dataAbsent : Traits → Machine → Bool
-dataAbsent t m = accesses (t .access) && not (dataPresent (m .cnf) (addressOf (t .operand) m))
+unfoldable pub dataAbsent : Traits → ℕ → Machine → Bool
+dataAbsent t address m = accesses (t .access) && not (dataPresent (m .cnf) address)
 
 -- "program address absent", of a MAC or MACD table word
 unfoldable pub tableAbsent : Traits → ℕ → Machine → Bool
@@ -50,13 +49,13 @@ tableAbsent t second m = t .table && not (programPresent (m .cnf) (tableAddress 
 unfoldable pub outputFull : Traits → ℕ → Machine → Bool
 outputFull t outputLength m = sends (t .port) && portSpent outputLength (m .«output_cursor»)
 
--- the last rows of the order: "9, 8, 6, 5 for a MAC or MACD table word, 10"
-unfoldable pub passRefusal : Traits → ℕ → ℕ → Machine → Answer
-passRefusal t second outputLength m =
+-- the last rows of the order, for an operand at this address: "9, 8, 6, 5 for a MAC or MACD table word, 10"
+unfoldable pub passRefusal : Traits → ℕ → ℕ → ℕ → Machine → Answer
+passRefusal t address second outputLength m =
     firstGiven
     (row WrongPort (wrongPort (t .port))
-    ∷ row AddressAbove (addressAbove t m)
-    ∷ row DataAbsent (dataAbsent t m)
+    ∷ row AddressAbove (addressAbove t address)
+    ∷ row DataAbsent (dataAbsent t address m)
     ∷ row ProgramAbsent (tableAbsent t second m)
     ∷ row OutputFull (outputFull t outputLength m)
     ∷ [])

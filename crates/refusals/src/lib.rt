@@ -1,5 +1,4 @@
 // What refuses a pass of a decoded instruction: the last rows of the order of the answers.
-use addressing::address_of;
 use answers::Answer;
 use machine::Machine;
 use multiplier::table_address;
@@ -7,7 +6,8 @@ use traits::Access;
 use traits::Port;
 use traits::Traits;
 ghost use mathlib.Core.Path.{_≡_};
-ghost use Rattle.regions.specs.Regions.{dataPresent};
+ghost use mathlib.Core.Bool.{not, _&&_};
+ghost use Rattle.regions.specs.Regions.{dataPresent, programPresent};
 ghost use Rattle.refusals.specs.Refusals.{accesses, wrongPort, sends, passRefusal};
 
 fn is_accessed(access: Access) -> bool
@@ -49,27 +49,48 @@ fn is_present(cnf: u8, address: u32) -> bool
     false
 }
 
-// The first of the last rows of the order that holds.
-pub fn pass_refusal(t: Traits, second: u16, output_length: usize, m: Machine) -> Answer
-    ensures { λ r. ⌜ r ≡ passRefusal t second «output_length» m ⌝ }
+// Presence is asked for only where the word is needed.
+fn is_data_absent(accessed: bool, cnf: u8, address: u32) -> bool
+    ensures { λ r. ⌜ r ≡ (accessed && not (dataPresent cnf address)) ⌝ }
+{
+    if accessed {
+        return !is_present(cnf, address);
+    }
+    false
+}
+
+fn is_table_absent(table: bool, cnf: u8, at: u16) -> bool
+    ensures { λ r. ⌜ r ≡ (table && not (programPresent cnf at)) ⌝ }
+{
+    if table {
+        return !regions::program_present(cnf, at);
+    }
+    false
+}
+
+// The first of the last rows of the order that holds, for an operand at this address.
+pub fn pass_refusal(
+    t: Traits,
+    address: u32,
+    second: u16,
+    output_length: usize,
+    m: Machine,
+) -> Answer
+    ensures { λ r. ⌜ r ≡ passRefusal t address second «output_length» m ⌝ }
 {
     let port = t.port;
-    let operand = t.operand;
     let access = t.access;
     let accessed = is_accessed(access);
-    let address = address_of(m, operand);
     if is_wrong_port(port) {
         return Answer::WrongPort;
     }
     if accessed & (65535 < address) {
         return Answer::AddressAbove;
     }
-    let absent = !is_present(m.cnf, address);
-    if accessed & absent {
+    if is_data_absent(accessed, m.cnf, address) {
         return Answer::DataAbsent;
     }
-    let missing = !regions::program_present(m.cnf, table_address(m, second));
-    if t.table & missing {
+    if is_table_absent(t.table, m.cnf, table_address(m, second)) {
         return Answer::ProgramAbsent;
     }
     let sent = is_sent(port);

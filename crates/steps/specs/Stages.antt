@@ -12,6 +12,7 @@ use Rattle.instructions.specs.declared.Instruction.{Instruction}
 use Rattle.instructions.specs.declared.Decoded.{Decoded}
 use Rattle.instructions.specs.declared.Decoded.the-variants.{Base, Published, Nothing}
 use Rattle.traits.specs.Pages.{traitsOf}
+use Rattle.addressing.specs.Addressing.{addressOf}
 use Rattle.regions.specs.Regions.{programPresent}
 use Rattle.slices.specs.Slices.{slicesFit}
 use Rattle.plans.specs.declared.Plan.{Plan}
@@ -63,8 +64,8 @@ module _ (rom «data» input : List ℕ) (outputLength : ℕ) (m : Machine) wher
   last-rows : (i : Instruction) (second : ℕ)
       → byTable
       (row WrongPort (wrongPort (traitsOf i .port))
-      ∷ row AddressAbove (addressAbove (traitsOf i) m)
-      ∷ row DataAbsent (dataAbsent (traitsOf i) m)
+      ∷ row AddressAbove (addressAbove (traitsOf i) (addressOf (traitsOf i .operand) m))
+      ∷ row DataAbsent (dataAbsent (traitsOf i) (addressOf (traitsOf i .operand) m) m)
       ∷ row ProgramAbsent (tableAbsent (traitsOf i) second m)
       ∷ row OutputFull (outputFull (traitsOf i) outputLength m)
       ∷ [])

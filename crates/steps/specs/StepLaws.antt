@@ -15,6 +15,7 @@ use Rattle.instructions.specs.declared.Instruction.{Instruction}
 use Rattle.instructions.specs.declared.Decoded.{Decoded}
 use Rattle.instructions.specs.declared.Decoded.the-variants.{Base, Published, Nothing}
 use Rattle.traits.specs.Pages.{traitsOf}
+use Rattle.addressing.specs.Addressing.{addressOf}
 use Rattle.regions.specs.Regions.{programPresent}
 use Rattle.slices.specs.Slices.{slicesFit}
 use Rattle.slices.specs.SliceLaws.{slices-fit}
@@ -37,7 +38,7 @@ first-not false a rows h e = (refl, e)
 
 module _ (rom d input : List ℕ) (outputLength : ℕ) (m : Machine) where
   -- a pass that is not refused has its data word on the board
-  not-absent : (i : Instruction) (second : ℕ) → isDone (passRefusal (traitsOf i) second outputLength m) ≡ true → dataAbsent (traitsOf i) m ≡ false
+  not-absent : (i : Instruction) (second : ℕ) → isDone (passRefusal (traitsOf i) (addressOf (traitsOf i .operand) m) second outputLength m) ≡ true → dataAbsent (traitsOf i) (addressOf (traitsOf i .operand) m) m ≡ false
   unfolding passRefusal
   not-absent i second e = first-not _ _ _ refl (first-not _ _ _ refl (first-not _ _ _ refl e .1) .1) .0
 
@@ -56,7 +57,7 @@ module _ (rom d input : List ℕ) (outputLength : ℕ) (m : Machine) where
 
   pass-fits : (i : Instruction) (second : ℕ) → length d ≡ 4096 → Fits (passPlan (traitsOf i) i second rom d input outputLength m)
   unfolding passPlan performed
-  pass-fits i second h = done-or (isDone (passRefusal (traitsOf i) second outputLength m)) _ _ (λ e. record { fits = write-fits i second rom d input m h (not-absent i second e) })
+  pass-fits i second h = done-or (isDone (passRefusal (traitsOf i) (addressOf (traitsOf i .operand) m) second outputLength m)) _ _ (λ e. record { fits = write-fits i second rom d input m h (not-absent i second e) })
 
   decoded-fits : (x : Decoded) → length d ≡ 4096 → Fits (decodedPlan x rom d input outputLength m)
   unfolding decodedPlan instructionPlan

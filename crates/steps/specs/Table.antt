@@ -13,6 +13,7 @@ use Rattle.instructions.specs.declared.Decoded.{Decoded}
 use Rattle.instructions.specs.declared.Decoded.the-variants.{Base, Published, Nothing}
 use Rattle.instructions.specs.Decode.{decodeOf}
 use Rattle.traits.specs.Pages.{traitsOf}
+use Rattle.addressing.specs.Addressing.{addressOf}
 use Rattle.regions.specs.Regions.{programPresent}
 use Rattle.slices.specs.Slices.{slicesFit}
 use Rattle.windows.specs.Windows.{programWord}
@@ -65,8 +66,8 @@ tableFor d rom «data» input outputLength m =
     ∷ row NotRepeatable (ofBase (notRepeatable m) d)
     ∷ row ProgramAbsent (ofBase (secondAbsent m) d)
     ∷ row WrongPort (ofBase (λ i. wrongPort (traitsOf i .port)) d)
-    ∷ row AddressAbove (ofBase (λ i. addressAbove (traitsOf i) m) d)
-    ∷ row DataAbsent (ofBase (λ i. dataAbsent (traitsOf i) m) d)
+    ∷ row AddressAbove (ofBase (λ i. addressAbove (traitsOf i) (addressOf (traitsOf i .operand) m)) d)
+    ∷ row DataAbsent (ofBase (λ i. dataAbsent (traitsOf i) (addressOf (traitsOf i .operand) m) m) d)
     ∷ row ProgramAbsent (ofBase (λ i. tableAbsent (traitsOf i) (secondWord i rom «data» m) m) d)
     ∷ row OutputFull (ofBase (λ i. outputFull (traitsOf i) outputLength m) d)
     ∷ []

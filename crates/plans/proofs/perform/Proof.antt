@@ -15,15 +15,12 @@ rule-requires c κs = search needs
 follow-requires : tie.Need-follow-requires
 follow-requires c κs = search needs
 
-address-of-requires : tie.Need-address-of-requires
-address-of-requires c κs = search needs
-
 write-of-requires : tie.Need-write-of-requires
 write-of-requires c κs = search needs
 
 returns : tie.Need-returns
 unfolding performed passedMachine passedWrite effectOf
-returns c = rw (c .write-of .ensures, c .before .address-of .ensures, c .before .before .follow .ensures, c .before .before .before .before .rule .ensures, c .before .before .before .before .before .after-operand .ensures, c .before .before .before .before .before .before .words-read .ensures)
+returns c = rw (c .write-of .ensures, c .before .follow .ensures, c .before .before .before .rule .ensures, c .before .before .before .before .after-operand .ensures, c .before .before .before .before .before .words-read .ensures, ← c .before .before .before .before .before .before .before .before .before .pre)
 
 pub perform-spec : {M : Type 1} → statement M
 perform-spec =
@@ -33,6 +30,5 @@ perform-spec =
     after-operand-requires
     rule-requires
     follow-requires
-    address-of-requires
     write-of-requires
     returns)

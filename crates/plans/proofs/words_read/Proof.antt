@@ -3,9 +3,6 @@ use borrow.Author.Needs.{needs}
 use Rattle.plans.proofs.words_read.Statement.{statement}
 use Rattle.plans.proofs.words_read.Tie as tie
 
-address-of-requires : tie.Need-address-of-requires
-address-of-requires c κs = search needs
-
 read-word-requires : tie.Need-read-word-requires
 read-word-requires c κs = search needs
 
@@ -23,17 +20,16 @@ program-word-requires c κs = search needs
 
 returns : tie.Need-returns
 unfolding wordsRead
-returns c = rw (c .program-word .ensures, c .before .before .port-spent .ensures, c .before .before .before .input-word .ensures, c .before .before .before .before .table-address .ensures, c .before .before .before .before .before .read-word .ensures, c .before .before .before .before .before .before .address-of .ensures, c .before .if1 .taken)
+returns c = rw (c .program-word .ensures, c .before .before .port-spent .ensures, c .before .before .before .input-word .ensures, c .before .before .before .before .table-address .ensures, c .before .before .before .before .before .read-word .ensures, ← c .before .before .before .before .before .before .before .before .before .pre, c .before .if1 .taken)
 
 returns-2 : tie.Need-returns-2
 unfolding wordsRead
-returns-2 c = rw (c .before .port-spent .ensures, c .before .before .input-word .ensures, c .before .before .before .table-address .ensures, c .before .before .before .before .read-word .ensures, c .before .before .before .before .before .address-of .ensures, c .if1 .left)
+returns-2 c = rw (c .before .port-spent .ensures, c .before .before .input-word .ensures, c .before .before .before .table-address .ensures, c .before .before .before .before .read-word .ensures, ← c .before .before .before .before .before .before .before .before .pre, c .if1 .left)
 
 pub words-read-spec : {M : Type 1} → statement M
 words-read-spec =
     tie.close
     (tie.spec
-    address-of-requires
     read-word-requires
     table-address-requires
     input-word-requires
