@@ -12,7 +12,7 @@ use Rattle.steps.specs.World.{World, RunOutcome}
 use Rattle.steps.specs.Step.{stepOf, runOf}
 use Rattle.laws.specs.Steps.{refused-unchanged}
 use Rattle.cells.specs.Checks.{cellsAnswer}
-use Rattle.cells.specs.CellLaws.{cells-machine}
+use Rattle.cell_laws.specs.CellLaws.{cells-machine}
 use Rattle.desktop.specs.Calls.{Called, RunCalled, called, worldOf, worldCalled, stepCalled, runDone, runCalled}
 
 -- a run of no steps leaves the world that it got
