@@ -1,42 +1,27 @@
 -- The cells of a machine give it back, each from its own place, and pass the checks exactly where it passes check 1.
 use mathlib.Core.Path.{_≡_, refl, sym, ap, _∙_}
-use mathlib.Core.Bool.{Bool, true, false, cond, _&&_, false≢true}
+use mathlib.Core.Bool.{true}
 use mathlib.Core.List.{List, [], _∷_, _++_}
 use Prim.Native.Nat.{ℕ, zero, suc, _+_, _%_, _≤_, _<_}
 use native.Mathlib.Omega.{arith}
 use native.Mathlib.Nat.{mod-eq-of-lt}
-use lib.Dec.{leb}
 use lib.ListN.{length, getD, List·getD-append}
 use lib.Seq.{getD-append-add}
 use Rattle.machine.specs.declared.Machine.{Machine}
-use Rattle.machine.specs.Range.{inRange, Ranged}
-use Rattle.machine.specs.RangeLaws.{ranged, in-range}
-use Rattle.answers.specs.declared.Answer.the-variants.{Done, CellOutOfRange}
-use Rattle.answers.specs.Numbers.{isDone}
-use Rattle.cells.specs.Cells.{firstCells, pointerCells, cursorCells, cellsOf, wordAt, smallAt, eightAt, machineOf}
-use Rattle.cells.specs.Checks.{limits, withinLimits, cellsAnswer}
-use Rattle.cells.specs.CheckLaws.{CellsKept, cells-kept, kept-done}
+use Rattle.machine.specs.Range.{inRange}
+use Rattle.machine.specs.RangeLaws.{ranged}
+use Rattle.ranges.specs.Ranges.{WordSized}
+use Rattle.ranges.specs.Cells.{word-at}
+use Rattle.cells.specs.Cells.{firstCells, pointerCells, cursorCells, cellsOf, wordAt, eightAt, machineOf}
 use Rattle.cell_reading.specs.ReadLaws.{machine-read}
-use Rattle.cell_laws.specs.CellLaws.{elements, elements-all, within-at}
-
--- what the types of the code hold of a machine's wide cells
-pub record WordsHeld (m : Machine) : Type 0 where
-  pub acc : m .acc < 4294967296
-  pub p : m .p < 4294967296
-  pub t : m .t < 65536
-  pub pc : m .pc < 65536
-  pub pfc : m .pfc < 65536
-  pub ar : (i : ℕ) → getD (m .ar) i 0 < 65536
-  pub ar-count : length (m .ar) ≡ 8
-  pub stack : (i : ℕ) → getD (m .stack .words) i 0 < 65536
-  pub stack-count : length (m .stack .words) ≡ 8
+use Rattle.cell_laws.specs.CellLaws.{elements, elements-all}
 
 -- ---- what stands where among a machine's cells
 
 after : (front rest : List ℕ) (n k : ℕ) → length front + n ≡ k → getD (front ++ rest) k 0 ≡ getD rest n 0
 after front rest n k e = rw (← e) (getD-append-add front rest n 0)
 
-module _ (m : Machine) (h : WordsHeld m) where
+module _ (m : Machine) (h : WordSized m) where
   abbrev tail₄ : List ℕ
   tail₄ = m .stack .words ++ cursorCells m
 
@@ -96,19 +81,19 @@ eight-words : (cells l : List ℕ) (from : ℕ) → length l ≡ 8 → ((k : ℕ
 eight-words cells l from n e f = elements-all l 8 0 (sym n) ∙ elements-words cells l from e f 8 0 (omega arith)
 
 -- a machine in range, read back from its cells, is the machine
-pub machine-cells : (m : Machine) → WordsHeld m → inRange m ≡ true → machineOf (cellsOf m) ≡ m
+pub machine-cells : (m : Machine) → WordSized m → inRange m ≡ true → machineOf (cellsOf m) ≡ m
 unfolding eightAt wordsFrom cellsOf firstCells pointerCells cursorCells
 machine-cells m h range =
     let r = ranged m range in
     sym
     (machine-read (cellsOf m)
-    (eight-words (cellsOf m) (m .stack .words) 24 (h .stack-count) (stack-at m h) (h .stack))
+    (eight-words (cellsOf m) (m .stack .words) 24 (h .stack-count) (stack-at m h) (λ k. word-at (m .stack .words) k (h .stack)))
     refl
     refl
     (held-word refl (h .t))
     (held-word refl (h .pc))
     (held-word refl (h .pfc))
-    (eight-words (cellsOf m) (m .ar) 5 (h .ar-count) (register-at m h) (h .ar))
+    (eight-words (cellsOf m) (m .ar) 5 (h .ar-count) (register-at m h) (λ k. word-at (m .ar) k (h .ar)))
     (held-small (pointer-at m h 0) (omega (arith, r .arp)))
     (held-small (pointer-at m h 1) (omega (arith, r .arb)))
     (held-word (pointer-at m h 2) (omega (arith, r .dp)))

@@ -1,24 +1,18 @@
 -- The cells of a machine are its own, each in its own place: reading them back gives the machine, and a machine read from cells that pass the checks has those cells.
 use mathlib.Core.Path.{_≡_, refl, sym, ap, _∙_}
-use mathlib.Core.Bool.{Bool, true, false, cond, _&&_, false≢true}
-use mathlib.Core.List.{List, [], _∷_, _++_}
+use mathlib.Core.Bool.{Bool, true, false, _&&_, false≢true}
+use mathlib.Core.List.{List, [], _∷_}
 use Prim.Native.Nat.{ℕ, zero, suc, _+_, _%_, _≤_, _<_}
 use native.Mathlib.Omega.{arith}
 use lib.Dec.{leb, ltb}
-use lib.ListN.{length, drop, getD, replicate, List·getD-append}
-use lib.Seq.{drop-cons, drop-length, getD-append-add, ext-getD}
+use lib.ListN.{length, drop, getD}
+use lib.Seq.{drop-cons, drop-length}
 use native.Mathlib.Nat.{mod-eq-of-lt}
-use borrow.Author.Tests.{leb-true, le-leb, ltb-true, ltb-false}
-use Rattle.machine.specs.declared.Machine.{Machine}
-use Rattle.machine.specs.Range.{inRange, Ranged}
-use Rattle.machine.specs.RangeLaws.{ranged, in-range}
-use Rattle.answers.specs.declared.Answer.the-variants.{Done}
+use borrow.Author.Tests.{leb-true, ltb-true, ltb-false}
 use Rattle.answers.specs.Numbers.{isDone}
-use Rattle.cells.specs.Cells.{firstCells, pointerCells, cursorCells, cellsOf, wordAt, smallAt, eightAt, machineOf}
+use Rattle.cells.specs.Cells.{firstCells, pointerCells, cursorCells, cellsOf, eightAt, machineOf}
 use Rattle.cells.specs.Checks.{limits, withinLimits, cellsAnswer}
-use Rattle.cells.specs.CheckLaws.{CellsKept, cells-kept, kept-done}
-use Rattle.cell_reading.specs.ReadLaws.{machine-read}
-use Rattle.cell_storing.specs.StoreLaws.{cells-length}
+use Rattle.cells.specs.CheckLaws.{cells-kept}
 
 -- ---- every cell at most its limit
 

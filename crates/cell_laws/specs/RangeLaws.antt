@@ -1,16 +1,17 @@
 -- The limits of the cells are check 1: cells that pass are those of a machine in range, and a machine's cells pass exactly where it is in range.
 use mathlib.Core.Path.{_≡_, refl, sym, ap, _∙_}
-use mathlib.Core.Bool.{Bool, true, false, cond, _&&_, false≢true}
+use mathlib.Core.Bool.{Bool, true, false, cond, false≢true}
 use mathlib.Core.List.{List, [], _∷_, _++_}
-use Prim.Native.Nat.{ℕ, zero, suc, _+_, _%_, _≤_, _<_}
+use Prim.Native.Nat.{ℕ, zero, suc, _+_, _≤_, _<_}
 use native.Mathlib.Omega.{arith}
-use lib.Dec.{leb}
 use lib.ListN.{length, getD, replicate}
 use borrow.Author.Tests.{le-leb, eq-eqb}
 use Rattle.machine.specs.declared.Machine.{Machine}
 use Rattle.machine.specs.Reset.{resetMachine}
 use Rattle.machine.specs.Range.{inRange, Ranged}
 use Rattle.machine.specs.RangeLaws.{ranged, in-range}
+use Rattle.ranges.specs.Ranges.{WordSized}
+use Rattle.ranges.specs.Cells.{word-at}
 use Rattle.answers.specs.declared.Answer.the-variants.{Done, CellOutOfRange}
 use Rattle.answers.specs.Numbers.{isDone}
 use Rattle.cells.specs.Cells.{firstCells, pointerCells, cursorCells, cellsOf, machineOf}
@@ -18,7 +19,7 @@ use Rattle.cells.specs.Checks.{limits, withinLimits, cellsAnswer}
 use Rattle.cells.specs.CheckLaws.{cells-kept}
 use Rattle.cell_storing.specs.StoreLaws.{cells-length}
 use Rattle.cell_laws.specs.CellLaws.{within-at}
-use Rattle.cell_laws.specs.BackLaws.{WordsHeld, pointer-at, cursor-at}
+use Rattle.cell_laws.specs.BackLaws.{pointer-at, cursor-at}
 
 -- the machine of cells that pass the checks passes check 1
 pub kept-in-range : (cells : List ℕ) → isDone (cellsAnswer cells) ≡ true → inRange (machineOf cells) ≡ true
@@ -75,7 +76,7 @@ most-within cells zero f = refl
 most-within cells (suc n) f =
     simp (most-within cells n (λ i below. f i (omega arith)), le-leb _ _ (f n (omega arith)))
 
-module _ (m : Machine) (h : WordsHeld m) where
+module _ (m : Machine) (h : WordSized m) where
   first-most : AtMost (firstCells m) (4294967295 ∷ 4294967295 ∷ 65535 ∷ 65535 ∷ 65535 ∷ [])
   unfolding AtMost firstCells
   first-most =
@@ -94,9 +95,9 @@ module _ (m : Machine) (h : WordsHeld m) where
   unfolding cellsOf limits firstCells pointerCells
   cells-most r =
       most-append (firstCells m) (4294967295 ∷ 4294967295 ∷ 65535 ∷ 65535 ∷ 65535 ∷ []) _ _ refl first-most
-      (most-append (m .ar) (replicate 8 65535) _ _ (h .ar-count) (words-most (m .ar) 8 (h .ar))
+      (most-append (m .ar) (replicate 8 65535) _ _ (h .ar-count) (words-most (m .ar) 8 (λ k. word-at (m .ar) k (h .ar)))
       (most-append (pointerCells m) (7 ∷ 7 ∷ 511 ∷ 3 ∷ 1 ∷ 1 ∷ 1 ∷ 1 ∷ 1 ∷ 1 ∷ 255 ∷ []) _ _ refl (pointers-most r)
-      (most-append (m .stack .words) (replicate 8 65535) _ _ (h .stack-count) (words-most (m .stack .words) 8 (h .stack)) (cursors-most r))))
+      (most-append (m .stack .words) (replicate 8 65535) _ _ (h .stack-count) (words-most (m .stack .words) 8 (λ k. word-at (m .stack .words) k (h .stack))) (cursors-most r))))
 
   within-ranged : withinLimits 34 (cellsOf m) ≡ true → inRange m ≡ true
   unfolding limits pointerCells cursorCells

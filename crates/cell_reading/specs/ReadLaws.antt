@@ -1,9 +1,8 @@
 -- A machine whose cells were each read is the machine of the cells.
-use mathlib.Core.Path.{_≡_, refl}
+use mathlib.Core.Path.{_≡_}
 use mathlib.Core.List.{List}
 use Prim.Native.Nat.{ℕ}
 use lib.ListN.{getD}
-use Rattle.machine.specs.declared.Machine.{Machine}
 use Rattle.cells.specs.Cells.{wordAt, smallAt, eightAt, machineOf}
 
 pub machine-read : (cells : List ℕ) {stack ar : List ℕ} {acc p t pc pfc arp arb dp pm ov ovm sxm c cnf mid rptc reads sends : ℕ}

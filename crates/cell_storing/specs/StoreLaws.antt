@@ -1,9 +1,9 @@
 -- Laws of runs of stores, and of a machine's cells stored in parts.
 use mathlib.Core.Path.{_≡_, refl, sym, ap, _∙_}
 use mathlib.Core.List.{List, [], _∷_, _++_, append-nil}
-use Prim.Native.Nat.{ℕ, zero, suc, _+_, _≤_}
+use Prim.Native.Nat.{ℕ, suc, _+_}
 use native.Mathlib.Omega.{arith}
-use lib.ListN.{length, drop, set, length-append}
+use lib.ListN.{length, set, length-append}
 use lib.Seq.{sets, sets-eq, drop-length}
 use Rattle.machine.specs.declared.Machine.{Machine}
 use Rattle.cells.specs.Cells.{cellsOf, firstCells, pointerCells, cursorCells}

@@ -1,13 +1,13 @@
 -- How the calls of each function make what its contract says.
-use mathlib.Core.Path.{_≡_, sym, ap, _∙_}
-use mathlib.Core.Bool.{Bool, true, false, cond}
+use mathlib.Core.Path.{_≡_, ap}
+use mathlib.Core.Bool.{true, false}
 use mathlib.Core.List.{List}
 use Prim.Native.Nat.{ℕ, _+_, _-_, _≤_}
 use lib.ListN.{length}
 use Rattle.machine.specs.declared.Machine.{Machine}
 use Rattle.answers.specs.declared.Answer.{Answer}
 use Rattle.answers.specs.Numbers.{numberOf, isDone}
-use Rattle.regions.specs.Regions.{inRom, inProgramB0, programPresent}
+use Rattle.regions.specs.Regions.{inRom, programPresent}
 use Rattle.regions.specs.RegionLaws.{program-b0}
 use Rattle.windows.specs.Windows.{windowAnswer, windowShown, wordsSentAnswer, wordsSent}
 use Rattle.windows.specs.WindowLaws.{window-done}

@@ -1,5 +1,4 @@
 use Rattle.cell_reading.specs.ReadLaws.{machine-read}
-use Rattle.cells.specs.Cells.{machineOf}
 use borrow.Author.Needs.{needs}
 use Rattle.cell_reading.proofs.machine_of.Statement.{statement}
 use Rattle.cell_reading.proofs.machine_of.Tie as tie
