@@ -29,7 +29,7 @@ pub fn cells_number(cells: &[u32]) -> u32
 }
 
 // The same of a run, which has done no step.
-pub fn no_run(cells: &[u32], steps: &mut u32) -> u32
+pub fn refused_run(cells: &[u32], steps: &mut u32) -> u32
     ensures answered { λ r. ⌜ r ≡ numberOf (cellsAnswer (now (cells .entry))) ⌝ }
     ensures none { λ _. ⌜ now (steps .exit) ≡ 0 ⌝ }
 {

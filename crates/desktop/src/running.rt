@@ -6,9 +6,9 @@ ghost use Rattle.cells.specs.Checks.{lengthAnswer, cellsAfter};
 ghost use Rattle.desktop.specs.Calls.{called, stepCalled, runCalled};
 use cell_calls::cells_number;
 use cell_calls::cells_pass;
-use cell_calls::no_run;
 use cell_calls::put_run;
 use cell_calls::put_step;
+use cell_calls::refused_run;
 use cell_calls::reset_cells;
 use cell_reading::machine_of;
 use emulator::run;
@@ -54,7 +54,7 @@ pub extern "C" fn crowmitten_run(
     ensures { λ r. ⌜ record { steps = now (steps .exit); after = called r (now (cells .exit)) (now («data» .exit)) (now (output .exit)) } ≡ runCalled (now (rom .entry)) (now (input .entry)) budget (now (cells .entry)) (now («data» .entry)) (now (output .entry)) ⌝ }
 {
     if !cells_pass(cells) {
-        return no_run(cells, steps);
+        return refused_run(cells, steps);
     }
     let ran = run(machine_of(cells), rom, data, input, output, budget);
     let after_run = ran.m;

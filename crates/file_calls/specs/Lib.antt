@@ -1,4 +1,4 @@
 -- definitions
 pub mod FileCalls
 -- laws
-pub mod FileCallLaws
+pub mod CallLaws

@@ -7,7 +7,7 @@ use Rattle.numbers.proofs.number_of.Reads as NumberOf
 use Rattle.numbers.proofs.steps_of.Reads as StepsOf
 use Rattle.cell_calls.proofs.cells_pass.Reads as CellsPass
 use Rattle.cell_calls.proofs.cells_number.Reads as CellsNumber
-use Rattle.cell_calls.proofs.no_run.Reads as NoRun
+use Rattle.cell_calls.proofs.refused_run.Reads as RefusedRun
 use Rattle.cell_calls.proofs.reset_cells.Reads as ResetCells
 use Rattle.cell_calls.proofs.put_step.Reads as PutStep
 use Rattle.cell_calls.proofs.put_run.Reads as PutRun
@@ -59,8 +59,8 @@ cells-pass κs a r r′ e e′ p q = same p q
 pub cells-number : OneResult CellsNumber.Post
 cells-number κs a r r′ e e′ p q = same p q
 
-pub no-run : OneOutcome NoRun.Post (λ r e. pair r (now (e .1 .0)))
-no-run κs a r r′ e e′ p q = both (same (p .0) (q .0)) (same (p .1) (q .1))
+pub refused-run : OneOutcome RefusedRun.Post (λ r e. pair r (now (e .1 .0)))
+refused-run κs a r r′ e e′ p q = both (same (p .0) (q .0)) (same (p .1) (q .1))
 
 pub reset-cells : OneOutcome ResetCells.Post (λ r e. pair r (now (e .0)))
 reset-cells κs a r r′ e e′ p q = both (same (p .0) (q .0)) (same (p .1) (q .1))

@@ -1,5 +1,5 @@
 -- definitions
 pub mod Shown
 -- laws
-pub mod ShownMade
+pub mod CallLaws
 pub mod ShownLaws

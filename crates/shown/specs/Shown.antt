@@ -13,7 +13,7 @@ use Rattle.shown.specs.declared.window.Place.{Place}
 
 -- ---- the words sent
 
--- an answer, and how many words or bytes are meant
+-- an answer, and how many words are meant
 pub record Counted : Type 0 where
   pub answer : ℕ
   pub count : ℕ

@@ -1,4 +1,4 @@
-use Rattle.file_calls.specs.FileCallLaws.{head-counts}
+use Rattle.file_calls.specs.CallLaws.{head-counts}
 use mathlib.Core.Path.{ap, _∙_}
 use Rattle.answers.specs.Numbers.{numberOf}
 use borrow.Author.Needs.{needs}

@@ -1,4 +1,4 @@
-use Rattle.file_calls.specs.FileCallLaws.{none-written, counts-written, bytes-written}
+use Rattle.file_calls.specs.CallLaws.{none-written, counts-written, bytes-written}
 use Rattle.runfile.specs.FileLaws.{told}
 use borrow.Author.Tests.{not-true, not-false}
 use mathlib.Core.Path.{ap, _∙_}

@@ -8,14 +8,14 @@ use Rattle.desktop.proofs.running.crowmitten_run.Tie as tie
 cells-pass-requires : tie.Need-cells-pass-requires
 cells-pass-requires c κs = search needs
 
-no-run-requires : tie.Need-no-run-requires
-no-run-requires c κs = search needs
+refused-run-requires : tie.Need-refused-run-requires
+refused-run-requires c κs = search needs
 
 same-length : tie.Need-same-length
 same-length c = search needs
 
 returns : tie.Need-returns
-returns c = run-refused (c .before .before .before .before .before .before .before .before .before .before .before .args .rom .now) (c .before .before .before .before .before .before .before .before .before .before .before .args .input .now) (c .before .before .before .before .before .before .before .before .before .before .before .args .cells .now) (c .before .before .before .before .before .before .before .before .before .before .before .args .«data» .now) (c .before .before .before .before .before .before .before .before .before .before .before .args .output .now) (sym (c .before .before .before .before .cells-pass .ensures) ∙ not-true _ (c .before .before .before .if1 .taken)) (c .no-run .ensures .0) (c .before .before .before .before .before .before .before .before .before .before .before .args .budget) (c .no-run .ensures .1)
+returns c = run-refused (c .before .before .before .before .before .before .before .before .before .before .before .args .rom .now) (c .before .before .before .before .before .before .before .before .before .before .before .args .input .now) (c .before .before .before .before .before .before .before .before .before .before .before .args .cells .now) (c .before .before .before .before .before .before .before .before .before .before .before .args .«data» .now) (c .before .before .before .before .before .before .before .before .before .before .before .args .output .now) (sym (c .before .before .before .before .cells-pass .ensures) ∙ not-true _ (c .before .before .before .if1 .taken)) (c .refused-run .ensures .0) (c .before .before .before .before .before .before .before .before .before .before .before .args .budget) (c .refused-run .ensures .1)
 
 machine-of-requires : tie.Need-machine-of-requires
 machine-of-requires c κs = search needs
@@ -43,7 +43,7 @@ crowmitten-run-spec =
     tie.close
     (tie.spec
     cells-pass-requires
-    no-run-requires
+    refused-run-requires
     same-length
     returns
     machine-of-requires

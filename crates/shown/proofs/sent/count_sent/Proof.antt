@@ -1,4 +1,4 @@
-use Rattle.shown.specs.ShownMade.{sent-refused, sent-made}
+use Rattle.shown.specs.CallLaws.{sent-refused, sent-made}
 use Rattle.runfile.specs.FileLaws.{told}
 use borrow.Author.Tests.{not-true, not-false}
 use borrow.Author.Needs.{needs}

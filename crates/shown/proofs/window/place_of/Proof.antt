@@ -1,4 +1,4 @@
-use Rattle.shown.specs.ShownMade.{no-place, past-rom, rom-place, data-place}
+use Rattle.shown.specs.CallLaws.{no-place, past-rom, rom-place, data-place}
 use Rattle.runfile.specs.FileLaws.{told}
 use borrow.Author.Tests.{not-true, not-false}
 use mathlib.Core.Path.{sym, _∙_}
