@@ -2,5 +2,4 @@
 pub mod Calls
 -- laws
 pub mod CallLaws
-pub mod ShownLaws
 pub mod RefusalLaws

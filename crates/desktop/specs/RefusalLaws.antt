@@ -1,19 +1,18 @@
 -- "A refusal returns the state given": a refused step changes no cell and no word, and neither does a run of no steps.
-use mathlib.Core.Path.{_≡_, refl, sym, ap, _∙_}
-use mathlib.Core.Bool.{Bool, true, false, cond}
+use mathlib.Core.Path.{_≡_, refl}
+use mathlib.Core.Bool.{Bool, true, false}
 use mathlib.Core.List.{List}
 use Prim.Native.Nat.{ℕ, zero, suc}
 use native.Mathlib.Omega.{arith}
 use lib.Dec.{eqb}
-use lib.ListN.{length}
 use Rattle.answers.specs.declared.Answer.{Answer}
 use Rattle.answers.specs.Numbers.{numberOf, isDone}
-use Rattle.steps.specs.World.{World, RunOutcome}
+use Rattle.steps.specs.World.{World}
 use Rattle.steps.specs.Step.{stepOf, runOf}
 use Rattle.laws.specs.Steps.{refused-unchanged}
 use Rattle.cells.specs.Checks.{cellsAnswer}
-use Rattle.cells.specs.CellLaws.{cells-machine}
-use Rattle.desktop.specs.Calls.{Called, RunCalled, called, worldOf, worldCalled, stepCalled, runDone, runCalled}
+use Rattle.cell_laws.specs.CellLaws.{cells-machine}
+use Rattle.desktop.specs.Calls.{called, worldOf, worldCalled, stepCalled, runCalled}
 
 -- a run of no steps leaves the world that it got
 run-of-none : (rom input : List ℕ) (budget : ℕ) (w : World) → runOf rom input budget w .steps ≡ 0 → runOf rom input budget w .world ≡ w

@@ -1,6 +1,5 @@
 // The library for programs in C: the emulator's functions over slices of numbers (include/crowmitten.h).
 pub mod files;
-mod numbers;
 pub mod running;
 pub mod sent;
 pub mod window;

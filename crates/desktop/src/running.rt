@@ -4,25 +4,22 @@ ghost use Rattle.machine.specs.Reset.{resetMachine};
 ghost use Rattle.answers.specs.Numbers.{numberOf};
 ghost use Rattle.cells.specs.Checks.{lengthAnswer, cellsAfter};
 ghost use Rattle.desktop.specs.Calls.{called, stepCalled, runCalled};
-use crate::numbers::number_of;
-use crate::numbers::steps_of;
-use answers::is_done;
-use cells::cells_answer;
-use cells::length_answer;
-use cells::machine_of;
-use cells::put_cells;
+use cell_calls::cells_number;
+use cell_calls::cells_pass;
+use cell_calls::put_run;
+use cell_calls::put_step;
+use cell_calls::refused_run;
+use cell_calls::reset_cells;
+use cell_reading::machine_of;
 use emulator::run;
 use emulator::step;
-use machine::Machine;
 
 // The cells after reset, whatever they held.
 #[no_mangle]
 pub extern "C" fn crowmitten_reset(cells: &mut [u32]) -> u32
     ensures { λ r. ⌜ (r ≡ numberOf (lengthAnswer (now (cells .entry)))) × (now (cells .exit) ≡ cellsAfter (now (cells .entry)) resetMachine) ⌝ }
 {
-    let counted = length_answer(cells);
-    put_cells(cells, Machine::reset());
-    number_of(counted)
+    reset_cells(cells)
 }
 
 #[no_mangle]
@@ -35,16 +32,13 @@ pub extern "C" fn crowmitten_step(
 ) -> u32
     ensures { λ r. ⌜ called r (now (cells .exit)) (now («data» .exit)) (now (output .exit)) ≡ stepCalled (now (rom .entry)) (now (input .entry)) (now (cells .entry)) (now («data» .entry)) (now (output .entry)) ⌝ }
 {
-    let checked = cells_answer(cells);
-    if !is_done(checked) {
-        return number_of(checked);
+    if !cells_pass(cells) {
+        return cells_number(cells);
     }
-    let before = machine_of(cells);
-    let stepped = step(before, rom, data, input, output);
+    let stepped = step(machine_of(cells), rom, data, input, output);
     let after_step = stepped.m;
     let answer = stepped.answer;
-    put_cells(cells, after_step);
-    number_of(answer)
+    put_step(cells, after_step, answer)
 }
 
 #[no_mangle]
@@ -59,17 +53,12 @@ pub extern "C" fn crowmitten_run(
 ) -> u32
     ensures { λ r. ⌜ record { steps = now (steps .exit); after = called r (now (cells .exit)) (now («data» .exit)) (now (output .exit)) } ≡ runCalled (now (rom .entry)) (now (input .entry)) budget (now (cells .entry)) (now («data» .entry)) (now (output .entry)) ⌝ }
 {
-    let checked = cells_answer(cells);
-    if !is_done(checked) {
-        *steps = 0;
-        return number_of(checked);
+    if !cells_pass(cells) {
+        return refused_run(cells, steps);
     }
-    let before = machine_of(cells);
-    let ran = run(before, rom, data, input, output, budget);
+    let ran = run(machine_of(cells), rom, data, input, output, budget);
     let after_run = ran.m;
     let last = ran.answer;
     let done = ran.steps;
-    put_cells(cells, after_run);
-    *steps = steps_of(done);
-    number_of(last)
+    put_run(cells, after_run, last, done, steps)
 }

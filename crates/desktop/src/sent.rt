@@ -1,25 +1,12 @@
 // The words sent.
 ghost use mathlib.Core.Path.{_≡_};
-ghost use Rattle.desktop.specs.Calls.{counted, sentCalled};
-use crate::numbers::number_of;
-use answers::is_done;
-use cells::cells_answer;
-use cells::machine_of;
-use windows::words_sent;
-use windows::words_sent_answer;
+ghost use Rattle.shown.specs.Shown.{counted, sentCalled};
+use shown::sent::count_sent;
 
 // How many words were sent: they are the first of the output slice.
 #[no_mangle]
 pub extern "C" fn crowmitten_words_sent(cells: &[u32], output: &[u16], count: &mut usize) -> u32
     ensures { λ r. ⌜ counted r (now (count .exit)) ≡ sentCalled (now (cells .entry)) (now (output .entry)) ⌝ }
 {
-    let checked = cells_answer(cells);
-    if !is_done(checked) {
-        *count = 0;
-        return number_of(checked);
-    }
-    let m = machine_of(cells);
-    let answer = words_sent_answer(m, output);
-    *count = words_sent(m, output).len();
-    number_of(answer)
+    count_sent(cells, output, count)
 }

@@ -1,8 +1,21 @@
 -- One possible result of each exported function: the library for C.
 use Rattle.cells.proofs.length_answer.Reads as LengthAnswer
 use Rattle.cells.proofs.cells_answer.Reads as CellsAnswer
-use Rattle.cells.proofs.machine_of.Reads as MachineOf
-use Rattle.cells.proofs.put_cells.Reads as PutCells
+use Rattle.cell_reading.proofs.machine_of.Reads as MachineOf
+use Rattle.cell_storing.proofs.put_cells.Reads as PutCells
+use Rattle.numbers.proofs.number_of.Reads as NumberOf
+use Rattle.numbers.proofs.steps_of.Reads as StepsOf
+use Rattle.cell_calls.proofs.cells_pass.Reads as CellsPass
+use Rattle.cell_calls.proofs.cells_number.Reads as CellsNumber
+use Rattle.cell_calls.proofs.refused_run.Reads as RefusedRun
+use Rattle.cell_calls.proofs.reset_cells.Reads as ResetCells
+use Rattle.cell_calls.proofs.put_step.Reads as PutStep
+use Rattle.cell_calls.proofs.put_run.Reads as PutRun
+use Rattle.file_calls.proofs.read_counts.Reads as ReadCounts
+use Rattle.file_calls.proofs.set_up_slices.Reads as SetUpSlices
+use Rattle.file_calls.proofs.write_counted.Reads as WriteCounted
+use Rattle.shown.proofs.sent.count_sent.Reads as CountSent
+use Rattle.shown.proofs.window.place_window.Reads as PlaceWindow
 use Rattle.desktop.proofs.files.crowmitten_read.Reads as CrowmittenRead
 use Rattle.desktop.proofs.files.crowmitten_set_up.Reads as CrowmittenSetUp
 use Rattle.desktop.proofs.files.crowmitten_write.Reads as CrowmittenWrite
@@ -12,7 +25,8 @@ use Rattle.desktop.proofs.running.crowmitten_run.Reads as CrowmittenRun
 use Rattle.desktop.proofs.sent.crowmitten_words_sent.Reads as CrowmittenWordsSent
 use Rattle.desktop.proofs.window.crowmitten_window.Reads as CrowmittenWindow
 use Rattle.setting_up.specs.SetUp.{lent}
-use Rattle.desktop.specs.Calls.{Called, RunCalled, called, counted, placed}
+use Rattle.shown.specs.Shown.{counted, placed}
+use Rattle.desktop.specs.Calls.{Called, RunCalled, called}
 use Prim.Native.Nat.{ℕ}
 use denote.Ref.{now}
 use Rattle.results.specs.One.{OneOutcome, OneResult, pair, same, both}
@@ -32,6 +46,45 @@ machine-of κs a r r′ e e′ p q = same p q
 
 pub put-cells : OneOutcome PutCells.Post (λ r e. now (e .0))
 put-cells κs a r r′ e e′ p q = same p q
+
+pub number-of : OneResult NumberOf.Post
+number-of κs a r r′ e e′ p q = same p q
+
+pub steps-of : OneResult StepsOf.Post
+steps-of κs a r r′ e e′ p q = same p q
+
+pub cells-pass : OneResult CellsPass.Post
+cells-pass κs a r r′ e e′ p q = same p q
+
+pub cells-number : OneResult CellsNumber.Post
+cells-number κs a r r′ e e′ p q = same p q
+
+pub refused-run : OneOutcome RefusedRun.Post (λ r e. pair r (now (e .1 .0)))
+refused-run κs a r r′ e e′ p q = both (same (p .0) (q .0)) (same (p .1) (q .1))
+
+pub reset-cells : OneOutcome ResetCells.Post (λ r e. pair r (now (e .0)))
+reset-cells κs a r r′ e e′ p q = both (same (p .0) (q .0)) (same (p .1) (q .1))
+
+pub put-step : OneOutcome PutStep.Post (λ r e. pair r (now (e .0)))
+put-step κs a r r′ e e′ p q = both (same (p .0) (q .0)) (same (p .1) (q .1))
+
+pub put-run : OneOutcome PutRun.Post (λ r e. pair r (pair (now (e .0)) (now (e .1 .1 .1 .1 .0))))
+put-run κs a r r′ e e′ p q = both (same (p .0) (q .0)) (both (same (p .1 .0) (q .1 .0)) (same (p .1 .1) (q .1 .1)))
+
+pub read-counts : OneOutcome ReadCounts.Post (λ r e. pair r (pair (now (e .1 .0)) (now (e .1 .1 .0))))
+read-counts κs a r r′ e e′ p q = both (same (p .0) (q .0)) (both (same (p .1 .0) (q .1 .0)) (same (p .1 .1) (q .1 .1)))
+
+pub set-up-slices : OneOutcome SetUpSlices.Post (λ r e. pair r (lent (now (e .1 .0)) (now (e .1 .1 .0)) (now (e .1 .1 .1 .0))))
+set-up-slices κs a r r′ e e′ p q = both (same (p .0) (q .0)) (same (p .1) (q .1))
+
+pub write-counted : OneOutcome WriteCounted.Post (λ r e. pair r (pair (now (e .1 .1 .1 .1 .0)) (now (e .1 .1 .1 .1 .1 .0))))
+write-counted κs a r r′ e e′ p q = both (same (p .0) (q .0)) (both (same (p .1 .0) (q .1 .0)) (same (p .1 .1) (q .1 .1)))
+
+pub count-sent : OneOutcome CountSent.Post (λ r e. counted r (now (e .1 .1 .0)))
+count-sent κs a r r′ e e′ p q = same p q
+
+pub place-window : OneOutcome PlaceWindow.Post (λ r e. placed r (now (e .1 .1 .1 .1 .0)) (now (e .1 .1 .1 .1 .1 .0)) (now (e .1 .1 .1 .1 .1 .1 .0)))
+place-window κs a r r′ e e′ p q = same p q
 
 pub crowmitten-read : OneOutcome CrowmittenRead.Post (λ r e. pair r (pair (now (e .1 .0)) (now (e .1 .1 .0))))
 crowmitten-read κs a r r′ e e′ p q = both (same (p .0) (q .0)) (both (same (p .1 .0) (q .1 .0)) (same (p .1 .1) (q .1 .1)))

@@ -7,18 +7,18 @@ use Rattle.cells.proofs.cells_answer.Tie as tie
 
 returns : tie.Need-returns
 unfolding cellsAnswer
-returns c = simp (ne-eqb _ _ (c .if1 .taken))
+returns c = simp (ne-eqb _ 34 (c .if1 .taken))
 
 within-limits-requires : tie.Need-within-limits-requires
 within-limits-requires c κs = search needs
 
 returns-2 : tie.Need-returns-2
 unfolding cellsAnswer
-returns-2 c = simp (eq-eqb _ _ (c .before .before .if1 .left), sym (c .before .within-limits .ensures) ∙ not-true _ (c .if2 .taken))
+returns-2 c = simp (eq-eqb _ 34 (c .before .before .if1 .left), sym (c .before .within-limits .ensures) ∙ not-true _ (c .if2 .taken))
 
 returns-3 : tie.Need-returns-3
 unfolding cellsAnswer
-returns-3 c = simp (eq-eqb _ _ (c .before .before .if1 .left), sym (c .before .within-limits .ensures) ∙ not-false _ (c .if2 .left))
+returns-3 c = simp (eq-eqb _ 34 (c .before .before .if1 .left), sym (c .before .within-limits .ensures) ∙ not-false _ (c .if2 .left))
 
 pub cells-answer-spec : {M : Type 1} → statement M
 cells-answer-spec = tie.close (tie.spec returns within-limits-requires returns-2 returns-3)

@@ -5,11 +5,11 @@ use Rattle.cells.proofs.length_answer.Tie as tie
 
 returns : tie.Need-returns
 unfolding lengthAnswer
-returns c = simp (eq-eqb _ _ (c .if1 .taken))
+returns c = simp (eq-eqb _ 34 (c .if1 .taken))
 
 returns-2 : tie.Need-returns-2
 unfolding lengthAnswer
-returns-2 c = simp (ne-eqb _ _ (c .if1 .left))
+returns-2 c = simp (ne-eqb _ 34 (c .if1 .left))
 
 pub length-answer-spec : {M : Type 1} → statement M
 length-answer-spec = tie.close (tie.spec returns returns-2)

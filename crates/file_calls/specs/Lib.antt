@@ -1,0 +1,4 @@
+-- definitions
+pub mod FileCalls
+-- laws
+pub mod CallLaws

@@ -1,0 +1,5 @@
+-- definitions
+pub mod Shown
+-- laws
+pub mod CallLaws
+pub mod ShownLaws

@@ -1,0 +1,3 @@
+// The words sent and the fetch window of a machine in numbers.
+pub mod sent;
+pub mod window;
