@@ -1,10 +1,13 @@
 // The decoder: a table of the 256 upper bytes gives the kind, and the low byte the page.
 ghost use mathlib.Core.Path.{_≡_};
+ghost use lib.ListN.{getD};
 ghost use Rattle.instructions.specs.Encoding.{lowFits};
 ghost use Rattle.instructions.specs.Decode.{decodeOf};
 ghost use Rattle.instructions.specs.Places.{lowerIn};
-ghost use Rattle.kinds.specs.Kinds.{kindOf, isAddressed, isBranch, placeOfKind, groupOf};
+ghost use Rattle.kinds.specs.Kinds.{isAddressed, isBranch, placeOfKind, groupOf};
 ghost use Rattle.kinds.specs.Groups.{controlPlace, controls, longPlace};
+ghost use Rattle.kinds.specs.Table.{kindTable};
+ghost use Rattle.decoder.specs.ByTable.{decodeBy};
 use instructions::Decoded;
 
 // The kind of each upper byte: the place of its page in the list of section 4.3's pages (0 to 74 are the base's, 75 to 132 the
@@ -343,11 +346,21 @@ const CONTROLS: [u8; 64] = [
     133,
 ];
 
-fn kind_of(upper: u8) -> u8
-    ensures { λ r. ⌜ r ≡ kindOf upper ⌝ }
+// The table, for callers that decode more than one word: made once, it is lent to each `decode_by`.
+pub fn kinds() -> [u8; 256]
+    ensures { λ r. ⌜ r ≡ kindTable ⌝ }
+{
+    KINDS
+}
+
+fn kind_of(kinds: &[u8], upper: u8) -> u8
+    ensures { λ r. ⌜ r ≡ getD (now (kinds .entry)) upper 0 ⌝ }
 {
     let i = upper as usize;
-    KINDS[i]
+    if i < kinds.len() {
+        return kinds[i];
+    }
+    0
 }
 
 // CEh and a low byte: above 63 there are CMPR (0101 00KK) and NORM (1MMM 0010).
@@ -396,18 +409,25 @@ fn group_page(kind: u8, low: u8) -> u8
 fn is_addressed(kind: u8) -> bool
     ensures { λ r. ⌜ r ≡ isAddressed kind ⌝ }
 {
-    (kind < 15)
-        | ((23 <= kind) & (kind < 37))
-        | ((42 <= kind) & (kind < 46))
-        | ((62 <= kind) & (kind < 66))
-        | ((75 <= kind) & (kind < 95))
+    match kind {
+        0..=14 => true,
+        23..=36 => true,
+        42..=45 => true,
+        62..=65 => true,
+        75..=94 => true,
+        _ => false,
+    }
 }
 
 // The kinds with a low byte 1DDD DDDD.
 fn is_branch(kind: u8) -> bool
     ensures { λ r. ⌜ r ≡ isBranch kind ⌝ }
 {
-    ((50 <= kind) & (kind < 61)) | ((95 <= kind) & (kind < 100))
+    match kind {
+        50..=60 => true,
+        95..=99 => true,
+        _ => false,
+    }
 }
 
 // A low byte is IDDD DDDD where its modification is not the reserved one.
@@ -445,10 +465,18 @@ fn page_of(kind: u8, low: u8) -> u8
     group_page(kind, low)
 }
 
+// What a word is by a table of kinds.
+pub fn decode_by(kinds: &[u8], w: u16) -> Decoded
+    ensures { λ r. ⌜ r ≡ decodeBy (now (kinds .entry)) w ⌝ }
+{
+    let kind = kind_of(kinds, (w / 256) as u8);
+    meanings::meaning(page_of(kind, (w % 256) as u8), w)
+}
+
 // What a word is.
 pub fn decode(w: u16) -> Decoded
     ensures { λ r. ⌜ r ≡ decodeOf w ⌝ }
 {
-    let kind = kind_of((w / 256) as u8);
-    meanings::meaning(page_of(kind, (w % 256) as u8), w)
+    let table = kinds();
+    decode_by(&table, w)
 }

@@ -21,8 +21,11 @@ use Rattle.steps.specs.World.{World, Outcome, RunOutcome}
 use Rattle.steps.specs.Table.{checksOf}
 use Rattle.steps.specs.Step.{planOf, stored, stepOf, runOf, oneMore}
 use Rattle.steps.specs.Stages.{fetchPlan, stages}
+use Rattle.kinds.specs.Table.{kindTable}
+use Rattle.fetching.specs.ByTable.{fetchPlanBy, fetch-by-kinds}
 use Rattle.steps.specs.StepLaws.{step-fits, Running, running-begins, running-goes, running-stops, running-ends}
 use Rattle.ranges.specs.Ranges.{WordsFit, WordSized, WorldInRange}
+use Rattle.ranges.specs.Operands.{program-word-lt}
 use Rattle.ranges.specs.Steps.{step-in-range}
 
 -- the two checks by their tests
@@ -56,7 +59,7 @@ both-of true false e = absurd (false≢true (ap isDone e))
 both-of false b e = absurd (false≢true (ap isDone e))
 
 module _ (rom d input : List ℕ) (o : ℕ) (m : Machine) where
-  pub checked-plan : checksOf rom d input o m ≡ Done → planOf rom d input o m ≡ fetchPlan rom d input o m
+  checked-plan : checksOf rom d input o m ≡ Done → planOf rom d input o m ≡ fetchPlan rom d input o m
   unfolding checksOf checks behind
   checked-plan e = stages rom d input o m ∙ passed (inRange m) (slicesFit m rom d input o) m _ e
 
@@ -64,8 +67,13 @@ module _ (rom d input : List ℕ) (o : ℕ) (m : Machine) where
   unfolding checksOf checks behind
   unchecked-plan e = stages rom d input o m ∙ failed (inRange m) (slicesFit m rom d input o) m _ e
 
-  pub checked-fits : checksOf rom d input o m ≡ Done → WriteFits (fetchPlan rom d input o m .write) (length d)
-  checked-fits e = rw (← checked-plan e) (step-fits rom d input o m)
+  -- the plan that the code makes, by a table that is lent to it
+  module _ (kinds : List ℕ) (k : kinds ≡ kindTable) (r : WordsFit rom) (w : WordsFit d) (e : checksOf rom d input o m ≡ Done) where
+    pub table-plan : fetchPlanBy kinds rom d input o m ≡ planOf rom d input o m
+    table-plan = rw (k, checked-plan e) (fetch-by-kinds rom d input o m (program-word-lt (m .cnf) (m .pc) rom d r w))
+
+    pub table-fits : WriteFits (fetchPlanBy kinds rom d input o m .write) (length d)
+    table-fits = rw table-plan (step-fits rom d input o m)
 
 module _ (rom input : List ℕ) where
   -- the checks of a world

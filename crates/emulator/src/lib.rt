@@ -8,6 +8,7 @@ ghost use mathlib.Core.Path.{_≡_};
 ghost use Prim.Native.Nat.{_<_};
 ghost use lib.ListN.{length, set};
 ghost use Rattle.answers.specs.declared.Answer.the-variants.{Done};
+ghost use Rattle.kinds.specs.Table.{kindTable};
 ghost use Rattle.stores.specs.Stores.{dataAfter, outputAfter};
 ghost use Rattle.plans.specs.StoreLaws.{WriteFits};
 ghost use Rattle.steps.specs.World.{World};
@@ -48,18 +49,19 @@ fn commit(write: Write, data: &mut [u16], output: &mut [u16])
     }
 }
 
-// A step that has passed checks 1 and 2.
+// A step that has passed checks 1 and 2, with the table of the kinds.
 fn checked_step(
+    kinds: &[u8],
     m: Machine,
     rom: &[u16],
     data: &mut [u16],
     input: &[u16],
     output: &mut [u16],
 ) -> Stepped
-    requires { ⌜ checksOf (now rom) (now «data») (now input) (length (now output)) m ≡ Done ⌝ }
+    requires { ⌜ (now kinds ≡ kindTable) × (checksOf (now rom) (now «data») (now input) (length (now output)) m ≡ Done) ⌝ }
     ensures { λ r. ⌜ stepped r (now («data» .exit)) (now (output .exit)) ≡ stepOf (now (rom .entry)) (now (input .entry)) (record { m = m; «data» = now («data» .entry); output = now (output .entry) }) ⌝ }
 {
-    let p = plan_fetched(rom, &data[..], input, output.len(), m);
+    let p = plan_fetched(kinds, rom, &data[..], input, output.len(), m);
     let n = p.m;
     let answer = p.answer;
     let write = p.write;
@@ -80,7 +82,8 @@ fn check(m: Machine, rom: &[u16], data: &[u16], input: &[u16], output_length: us
     Answer::Done
 }
 
-// Checks 1 and 2 are made once: no step that is done leaves a machine that fails them (`step-in-range`).
+// Checks 1 and 2 are made once: no step that is done leaves a machine that fails them (`step-in-range`). The table of the kinds is
+// made once too.
 pub fn run(
     m: Machine,
     rom: &[u16],
@@ -99,6 +102,7 @@ pub fn run(
             answer: checked,
         };
     }
+    let kinds = decoder::kinds();
     let mut n = m;
     let mut steps: u16 = 0;
     loop {
@@ -109,7 +113,7 @@ pub fn run(
                 answer: Answer::Done,
             };
         }
-        let s = checked_step(n, rom, data, input, output);
+        let s = checked_step(&kinds, n, rom, data, input, output);
         let answer = s.answer;
         if !is_done(answer) {
             let k = s.m;

@@ -1,6 +1,6 @@
 // From a machine that has passed checks 1 and 2 to the plan of its step: answers 5, 3, 4, 7 and 5 for the second word, then the pass.
 use answers::Answer;
-use decoder::decode;
+use decoder::decode_by;
 use instructions::Decoded;
 use instructions::Instruction;
 use machine::Machine;
@@ -13,7 +13,8 @@ ghost use mathlib.Core.Path.{_≡_};
 ghost use mathlib.Core.Bool.{cond};
 ghost use Rattle.windows.specs.Windows.{programWord};
 ghost use Rattle.plans.specs.Pass.{refused};
-ghost use Rattle.steps.specs.Stages.{instructionPlan, decodedPlan, fetchPlan};
+ghost use Rattle.steps.specs.Stages.{instructionPlan, decodedPlan};
+ghost use Rattle.fetching.specs.ByTable.{fetchPlanBy};
 
 fn refuse(m: Machine, answer: Answer) -> Plan
     ensures { λ r. ⌜ r ≡ refused m answer ⌝ }
@@ -53,9 +54,10 @@ fn plan_instruction<'a>(
     }
     let two = t.words == 2;
     let at = registers::wrapped_sum(m.pc, 1);
-    let absent = !regions::program_present(m.cnf, at);
-    if two & absent {
-        return refuse(m, Answer::ProgramAbsent);
+    if two {
+        if !regions::program_present(m.cnf, at) {
+            return refuse(m, Answer::ProgramAbsent);
+        }
     }
     let second = second_word(two, m.cnf, at, rom, data);
     plan_pass(i, t, second, rom, data, input, output_length, m)
@@ -79,19 +81,20 @@ fn plan_decoded<'a>(
     }
 }
 
-// Answer 5 for the first word, then what it decodes to.
+// Answer 5 for the first word, then what it decodes to by a table of kinds.
 pub fn plan_fetched<'a>(
+    kinds: &[u8],
     rom: &'a [u16],
     data: &'a [u16],
     input: &[u16],
     output_length: usize,
     m: Machine,
 ) -> Plan
-    ensures { λ r. ⌜ r ≡ fetchPlan (now (rom .entry)) (now («data» .entry)) (now (input .entry)) «output_length» m ⌝ }
+    ensures { λ r. ⌜ r ≡ fetchPlanBy (now (kinds .entry)) (now (rom .entry)) (now («data» .entry)) (now (input .entry)) «output_length» m ⌝ }
 {
     if !regions::program_present(m.cnf, m.pc) {
         return refuse(m, Answer::ProgramAbsent);
     }
     let word = program_word(m.cnf, m.pc, rom, data);
-    plan_decoded(decode(word), rom, data, input, output_length, m)
+    plan_decoded(decode_by(kinds, word), rom, data, input, output_length, m)
 }

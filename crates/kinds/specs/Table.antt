@@ -7,8 +7,8 @@ use Rattle.instructions.specs.Places.{pagesOf}
 use Rattle.kinds.specs.Kinds.{kindOf, rightTable, table-right}
 
 -- sixteen upper bytes a row
-unfoldable pub kinds : List ℕ
-kinds =
+unfoldable pub kindTable : List ℕ
+kindTable =
     0 ∷ 0 ∷ 0 ∷ 0 ∷ 0 ∷ 0 ∷ 0 ∷ 0 ∷ 0 ∷ 0 ∷ 0 ∷ 0 ∷ 0 ∷ 0 ∷ 0 ∷ 0 ∷
     1 ∷ 1 ∷ 1 ∷ 1 ∷ 1 ∷ 1 ∷ 1 ∷ 1 ∷ 1 ∷ 1 ∷ 1 ∷ 1 ∷ 1 ∷ 1 ∷ 1 ∷ 1 ∷
     2 ∷ 2 ∷ 2 ∷ 2 ∷ 2 ∷ 2 ∷ 2 ∷ 2 ∷ 2 ∷ 2 ∷ 2 ∷ 2 ∷ 2 ∷ 2 ∷ 2 ∷ 2 ∷
@@ -27,6 +27,6 @@ kinds =
     58 ∷ 54 ∷ 57 ∷ 56 ∷ 55 ∷ 53 ∷ 52 ∷ 59 ∷ 96 ∷ 95 ∷ 98 ∷ 51 ∷ 84 ∷ 83 ∷ 60 ∷ 50 ∷
     []
 
-pub kinds-right : (upper : ℕ) → upper < 256 → getD kinds upper 0 ≡ kindOf upper
-unfolding kinds rightTable kindOf pagesOf
-kinds-right upper h = table-right kinds upper h tt
+pub kinds-right : (upper : ℕ) → upper < 256 → getD kindTable upper 0 ≡ kindOf upper
+unfolding kindTable rightTable kindOf pagesOf
+kinds-right upper h = table-right kindTable upper h tt

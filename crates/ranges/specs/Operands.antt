@@ -205,7 +205,7 @@ window-words cnf a rom «data» f g =
     (words-drop a (take 0x1000 rom) (words-take 0x1000 rom f))
     (case (inProgramB0 cnf a) shown [] (words-drop (a - 0xFF00 + 0x200) (take 0x300 «data») (words-take 0x300 «data» g)) tt)
 
-program-word-lt : (cnf a : ℕ) (rom «data» : List ℕ) → WordsFit rom → WordsFit «data» → programWord cnf a rom «data» < 2 ^ 16
+pub program-word-lt : (cnf a : ℕ) (rom «data» : List ℕ) → WordsFit rom → WordsFit «data» → programWord cnf a rom «data» < 2 ^ 16
 unfolding programWord
 program-word-lt cnf a rom «data» f g = word-at (windowOf cnf a rom «data») 0 (window-words cnf a rom «data» f g)
 

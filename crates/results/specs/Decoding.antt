@@ -1,5 +1,7 @@
 -- One possible result of each exported function: decoding.
 use Rattle.meanings.proofs.meaning.Reads as Meaning
+use Rattle.decoder.proofs.kinds.Reads as Kinds
+use Rattle.decoder.proofs.decode_by.Reads as DecodeBy
 use Rattle.decoder.proofs.decode.Reads as Decode
 use Rattle.encoder.proofs.encode.Reads as Encode
 use Rattle.operand_words.proofs.constant.Reads as Constant
@@ -11,6 +13,12 @@ use Rattle.results.specs.One.{OneResult, same}
 
 pub meaning : OneResult Meaning.Post
 meaning κs a r r′ e e′ p q = same p q
+
+pub kinds : OneResult Kinds.Post
+kinds κs a r r′ e e′ p q = same p q
+
+pub decode-by : OneResult DecodeBy.Post
+decode-by κs a r r′ e e′ p q = same p q
 
 pub decode : OneResult Decode.Post
 decode κs a r r′ e e′ p q = same p q

@@ -1,27 +1,20 @@
-use Rattle.kinds.specs.Kinds.{decode-by-place}
+use Rattle.decoder.specs.ByTable.{decode-by-kinds}
 use borrow.Author.Needs.{needs}
 use Rattle.decoder.proofs.decode.Statement.{statement}
 use Rattle.decoder.proofs.decode.Tie as tie
 
-cast-kind-of : tie.Need-cast-kind-of
-cast-kind-of c = search needs
+kinds-requires : tie.Need-kinds-requires
+kinds-requires c κs = search needs
 
-kind-of-requires : tie.Need-kind-of-requires
-kind-of-requires c κs = search needs
+slice-aggregate-decode-by : tie.Need-slice-aggregate-decode-by
+slice-aggregate-decode-by c = search needs
 
-cast-page-of : tie.Need-cast-page-of
-cast-page-of c = search needs
-
-page-of-requires : tie.Need-page-of-requires
-page-of-requires c κs = search needs
-
-meaning-requires : tie.Need-meaning-requires
-meaning-requires c κs = search needs
+decode-by-requires : tie.Need-decode-by-requires
+decode-by-requires c κs = search needs
 
 returns : tie.Need-returns
-returns c = rw (decode-by-place (c .before .before .before .args .w) (search needs), ← c .before .before .kind-of .ensures, ← c .before .page-of .ensures) (c .meaning .ensures)
+returns c = rw (← decode-by-kinds (c .before .before .before .args .w) (search needs), ← c .before .before .kinds .ensures) (c .decode-by .ensures)
 
 pub decode-spec : {M : Type 1} → statement M
 decode-spec =
-    tie.close
-    (tie.spec cast-kind-of kind-of-requires cast-page-of page-of-requires meaning-requires returns)
+    tie.close (tie.spec kinds-requires slice-aggregate-decode-by decode-by-requires returns)

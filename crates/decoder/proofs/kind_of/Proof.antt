@@ -1,14 +1,17 @@
+use mathlib.Core.Path.{sym}
+use lib.ListN.{List·getD-eq-default}
 use borrow.Author.Needs.{needs}
-use Rattle.kinds.specs.Table.{kinds, kinds-right}
 use Rattle.decoder.proofs.kind_of.Statement.{statement}
 use Rattle.decoder.proofs.kind_of.Tie as tie
 
-array-read-result : tie.Need-array-read-result
-array-read-result c = search needs
+shared-slice-read-result : tie.Need-shared-slice-read-result
+shared-slice-read-result c = search needs
 
 returns : tie.Need-returns
-unfolding kinds
-returns c = kinds-right (c .args .upper) (search needs)
+returns c = search needs
+
+returns-2 : tie.Need-returns-2
+returns-2 c = sym (List·getD-eq-default (c .before .args .kinds .now) 0 (c .if1 .left))
 
 pub kind-of-spec : {M : Type 1} → statement M
-kind-of-spec = tie.close (tie.spec array-read-result returns)
+kind-of-spec = tie.close (tie.spec shared-slice-read-result returns returns-2)

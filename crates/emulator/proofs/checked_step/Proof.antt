@@ -1,5 +1,5 @@
 use Rattle.steps.specs.Step.{stepOf, stored}
-use Rattle.emulator.specs.RunLaws.{checked-plan, checked-fits}
+use Rattle.emulator.specs.RunLaws.{words-fit, table-plan, table-fits}
 use borrow.Author.Needs.{needs}
 use Rattle.emulator.proofs.checked_step.Statement.{statement}
 use Rattle.emulator.proofs.checked_step.Tie as tie
@@ -8,7 +8,12 @@ plan-fetched-requires : tie.Need-plan-fetched-requires
 plan-fetched-requires c κs = search needs
 
 commit-requires : tie.Need-commit-requires
-commit-requires c κs = rw (c .before .before .before .plan-fetched .ensures) (checked-fits _ _ _ _ _ (c .before .before .before .before .before .before .before .before .before .pre))
+commit-requires c κs =
+    rw (c .before .before .before .plan-fetched .ensures)
+    (table-fits _ _ _ _ _ _ (c .before .before .before .before .before .before .before .before .before .before .pre .0)
+    (words-fit (c .before .before .before .before .before .before .before .before .before .before .args .rom .now) (λ i. c .before .before .before .before .before .before .before .before .shared-slice-known2 .given i .fits))
+    (words-fit (c .before .before .before .before .before .before .before .before .before .before .args .«data» .now) (λ i. c .before .before .before .before .before .before .before .slice-known .given i .fits))
+    (c .before .before .before .before .before .before .before .before .before .before .pre .1))
 
 same-length : tie.Need-same-length
 same-length c = search needs
@@ -18,7 +23,16 @@ same-length-2 c = search needs
 
 returns : tie.Need-returns
 unfolding stepOf stored
-returns c = rw (checked-plan _ _ _ _ _ (c .before .before .before .before .before .before .before .before .before .before .before .before .before .before .pre), ← c .before .before .before .before .before .before .before .before .plan-fetched .ensures, c .before .before .before .before .commit .ensures .0, c .before .before .before .before .commit .ensures .1)
+returns c =
+    rw (
+      ← table-plan _ _ _ _ _ _ (c .before .before .before .before .before .before .before .before .before .before .before .before .before .before .before .pre .0)
+          (words-fit (c .before .before .before .before .before .before .before .before .before .before .before .before .before .before .before .args .rom .now) (λ i. c .before .before .before .before .before .before .before .before .before .before .before .before .before .shared-slice-known2 .given i .fits))
+          (words-fit (c .before .before .before .before .before .before .before .before .before .before .before .before .before .before .before .args .«data» .now) (λ i. c .before .before .before .before .before .before .before .before .before .before .before .before .slice-known .given i .fits))
+          (c .before .before .before .before .before .before .before .before .before .before .before .before .before .before .before .pre .1),
+      ← c .before .before .before .before .before .before .before .before .plan-fetched .ensures,
+      c .before .before .before .before .commit .ensures .0,
+      c .before .before .before .before .commit .ensures .1,
+    )
 
 pub checked-step-spec : {M : Type 1} → statement M
 checked-step-spec =

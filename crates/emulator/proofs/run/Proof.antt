@@ -13,11 +13,11 @@ use Rattle.emulator.proofs.run.Statement.{statement}
 use Rattle.emulator.proofs.run.Tie as tie
 
 abbrev Inv-loop : tie.InvT-loop
-Inv-loop rom data₀ input output₀ budget n₀ steps₀ «data» output n steps =
+Inv-loop rom data₀ input output₀ budget kinds n₀ steps₀ «data» output n steps =
     Going rom input budget (record { m = n₀; «data» = data₀; output = output₀ }) (record { m = n; «data» = «data»; output = output }) steps
 
 abbrev μ-loop : tie.MeasureT-loop
-μ-loop rom data₀ input output₀ budget n₀ steps₀ «data» output n steps = budget - steps
+μ-loop rom data₀ input output₀ budget kinds n₀ steps₀ «data» output n steps = budget - steps
 
 check-requires : tie.Need-check-requires Inv-loop μ-loop
 check-requires c κs = tt
@@ -32,47 +32,53 @@ returns : tie.Need-returns Inv-loop μ-loop
 returns c =
     rw (c .before .before .check .ensures) (sym (refused-run _ _ _ _ (sym (ap isDone (c .before .before .check .ensures)) ∙ (sym (c .before .is-done .ensures) ∙ not-true _ (c .if1 .taken)))))
 
+kinds-requires : tie.Need-kinds-requires Inv-loop μ-loop
+kinds-requires c κs = tt
+
 loop-holds : tie.Need-loop-holds Inv-loop μ-loop
 loop-holds c =
     going-begins _ _ _ _
-    (sym (c .before .before .check .ensures) ∙ done-is _ (sym (c .before .is-done .ensures) ∙ not-false _ (c .if1 .left)))
+    (sym (c .before .before .before .check .ensures) ∙ done-is _ (sym (c .before .before .is-done .ensures) ∙ not-false _ (c .before .if1 .left)))
     (record {
       acc = search needs;
       p = search needs;
       t = search needs;
       pc = search needs;
       pfc = search needs;
-      ar = words-fit (c .before .before .before .before .before .before .before .before .args .m .ar) (λ i. elem-fits-field w16 w16 (c .before .before .before .before .before .before .before .before .args .m .ar) (c .before .before .before .before .before .before .before .before .good .0 .1 .1 .1 .1 .1 .1 .1 .1 .0 .0) i (c .before .before .before .before .before .before .before .before .good .0 .1 .1 .1 .1 .1 .1 .1 .1 .0 .1 .1) tt .fits);
+      ar = words-fit (c .before .before .before .before .before .before .before .before .before .args .m .ar) (λ i. elem-fits-field w16 w16 (c .before .before .before .before .before .before .before .before .before .args .m .ar) (c .before .before .before .before .before .before .before .before .before .good .0 .1 .1 .1 .1 .1 .1 .1 .1 .0 .0) i (c .before .before .before .before .before .before .before .before .before .good .0 .1 .1 .1 .1 .1 .1 .1 .1 .0 .1 .1) tt .fits);
       ar-count = search needs;
-      stack = words-fit (c .before .before .before .before .before .before .before .before .args .m .stack .words) (λ i. elem-fits-field w16 w16 (c .before .before .before .before .before .before .before .before .args .m .stack .words) (c .before .before .before .before .before .before .before .before .good .0 .1 .1 .0 .1 .1 .0 .0) i (c .before .before .before .before .before .before .before .before .good .0 .1 .1 .0 .1 .1 .0 .1 .1) tt .fits);
+      stack = words-fit (c .before .before .before .before .before .before .before .before .before .args .m .stack .words) (λ i. elem-fits-field w16 w16 (c .before .before .before .before .before .before .before .before .before .args .m .stack .words) (c .before .before .before .before .before .before .before .before .before .good .0 .1 .1 .0 .1 .1 .0 .0) i (c .before .before .before .before .before .before .before .before .before .good .0 .1 .1 .0 .1 .1 .0 .1 .1) tt .fits);
       stack-count = search needs;
     })
-    (words-fit (c .before .before .before .before .before .before .before .before .args .rom .now) (λ i. c .before .before .before .before .before .before .before .shared-slice-known .given i .fits))
-    (words-fit (c .before .before .before .before .before .before .before .before .args .input .now) (λ i. c .before .before .before .before .before .shared-slice-known2 .given i .fits))
-    (words-fit (c .before .before .before .before .before .before .before .before .args .«data» .now) (λ i. c .before .before .before .before .before .before .slice-known .given i .fits))
-    (words-fit (c .before .before .before .before .before .before .before .before .args .output .now) (λ i. c .before .before .before .before .slice-known2 .given i .fits))
+    (words-fit (c .before .before .before .before .before .before .before .before .before .args .rom .now) (λ i. c .before .before .before .before .before .before .before .before .shared-slice-known .given i .fits))
+    (words-fit (c .before .before .before .before .before .before .before .before .before .args .input .now) (λ i. c .before .before .before .before .before .before .shared-slice-known2 .given i .fits))
+    (words-fit (c .before .before .before .before .before .before .before .before .before .args .«data» .now) (λ i. c .before .before .before .before .before .before .before .slice-known .given i .fits))
+    (words-fit (c .before .before .before .before .before .before .before .before .before .args .output .now) (λ i. c .before .before .before .before .before .slice-known2 .given i .fits))
+
+slice-aggregate-checked-step : tie.Need-slice-aggregate-checked-step Inv-loop μ-loop
+slice-aggregate-checked-step c = search needs
 
 checked-step-requires : tie.Need-checked-step-requires Inv-loop μ-loop
-checked-step-requires c κs = going-checks _ _ _ _ _ _ (c .before .before .before .loop .inv)
+checked-step-requires c κs = (c .before .before .before .before .before .kinds .ensures, going-checks _ _ _ _ _ _ (c .before .before .before .before .loop .inv))
 
 is-done-requires-2 : tie.Need-is-done-requires-2 Inv-loop μ-loop
 is-done-requires-2 c κs = tt
 
 add-steps : tie.Need-add-steps Inv-loop μ-loop
-add-steps c = omega (arith, c .before .before .before .before .before .before .before .before .before .before .if2 .left, c .before .before .before .before .before .before .before .before .before .before .before .before .before .before .before .before .before .before .before .before .fits .budget)
+add-steps c = omega (arith, c .before .before .before .before .before .before .before .before .before .before .before .if2 .left, c .before .before .before .before .before .before .before .before .before .before .before .before .before .before .before .before .before .before .before .before .before .before .fits .budget)
 
 loop-less : tie.Need-loop-less Inv-loop μ-loop
 loop-less c = search needs
 
 loop-again : tie.Need-loop-again Inv-loop μ-loop
 loop-again c =
-    going-on _ _ _ _ _ _ (c .before .before .before .before .before .before .before .before .before .before .before .loop .inv)
-    (stepped (c .before .before .before .before .before .before .before .checked-step .result) (c .before .before .before .before .before .before .before .checked-step .last .1 .1 .0) (c .before .before .before .before .before .before .before .checked-step .last .1 .1 .1 .1 .0))
+    going-on _ _ _ _ _ _ (c .before .before .before .before .before .before .before .before .before .before .before .before .loop .inv)
+    (stepped (c .before .before .before .before .before .before .before .checked-step .result) (c .before .before .before .before .before .before .before .checked-step .last .1 .1 .1 .0) (c .before .before .before .before .before .before .before .checked-step .last .1 .1 .1 .1 .1 .0))
     (c .before .before .before .before .before .before .before .checked-step .ensures)
-    (c .before .before .before .before .before .before .before .before .before .before .if2 .left)
+    (c .before .before .before .before .before .before .before .before .before .before .before .if2 .left)
     (sym (c .before .before .is-done2 .ensures) ∙ not-false _ (c .before .if3 .left))
-    (c .before .before .before .before .before .before .before .checked-step .kept .1 .1 .0)
-    (c .before .before .before .before .before .before .before .checked-step .kept .1 .1 .1 .1 .0)
+    (c .before .before .before .before .before .before .before .checked-step .kept .1 .1 .1 .0)
+    (c .before .before .before .before .before .before .before .checked-step .kept .1 .1 .1 .1 .1 .0)
 
 same-length-2 : tie.Need-same-length-2 Inv-loop μ-loop
 same-length-2 c = search needs
@@ -91,10 +97,10 @@ same-length-5 c = search needs
 
 returns-3 : tie.Need-returns-3 Inv-loop μ-loop
 returns-3 c =
-    running-stops _ _ _ _ _ _ (c .before .before .before .before .before .before .before .before .before .before .before .loop .inv .running)
-    (stepped (c .before .before .before .before .before .before .before .checked-step .result) (c .before .before .before .before .before .before .before .checked-step .last .1 .1 .0) (c .before .before .before .before .before .before .before .checked-step .last .1 .1 .1 .1 .0))
+    running-stops _ _ _ _ _ _ (c .before .before .before .before .before .before .before .before .before .before .before .before .loop .inv .running)
+    (stepped (c .before .before .before .before .before .before .before .checked-step .result) (c .before .before .before .before .before .before .before .checked-step .last .1 .1 .1 .0) (c .before .before .before .before .before .before .before .checked-step .last .1 .1 .1 .1 .1 .0))
     (c .before .before .before .before .before .before .before .checked-step .ensures)
-    (c .before .before .before .before .before .before .before .before .before .before .if2 .left)
+    (c .before .before .before .before .before .before .before .before .before .before .before .if2 .left)
     (sym (c .before .before .is-done2 .ensures) ∙ not-true _ (c .before .if3 .taken))
 
 pub run-spec : {M : Type 1} → statement M
@@ -107,7 +113,9 @@ run-spec =
     is-done-requires
     same-length
     returns
+    kinds-requires
     loop-holds
+    slice-aggregate-checked-step
     checked-step-requires
     is-done-requires-2
     add-steps

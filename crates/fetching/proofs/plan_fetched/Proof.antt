@@ -1,5 +1,4 @@
-use Rattle.steps.specs.Stages.{fetchPlan}
-use Rattle.steps.specs.Table.{decodedAt}
+use Rattle.fetching.specs.ByTable.{fetchPlanBy}
 use borrow.Author.Needs.{needs}
 use Rattle.fetching.proofs.plan_fetched.Statement.{statement}
 use Rattle.fetching.proofs.plan_fetched.Tie as tie
@@ -11,21 +10,21 @@ refuse-requires : tie.Need-refuse-requires
 refuse-requires c κs = search needs
 
 returns : tie.Need-returns
-unfolding fetchPlan decodedAt
+unfolding fetchPlanBy
 returns c = rw (c .refuse .ensures, ← c .before .before .program-present .ensures, c .before .if1 .taken)
 
 program-word-requires : tie.Need-program-word-requires
 program-word-requires c κs = search needs
 
-decode-requires : tie.Need-decode-requires
-decode-requires c κs = search needs
+decode-by-requires : tie.Need-decode-by-requires
+decode-by-requires c κs = search needs
 
 plan-decoded-requires : tie.Need-plan-decoded-requires
 plan-decoded-requires c κs = search needs
 
 returns-2 : tie.Need-returns-2
-unfolding fetchPlan decodedAt
-returns-2 c = rw (c .plan-decoded .ensures, c .before .decode .ensures, c .before .before .program-word .ensures, ← c .before .before .before .before .program-present .ensures, c .before .before .before .if1 .left)
+unfolding fetchPlanBy
+returns-2 c = rw (c .plan-decoded .ensures, c .before .decode-by .ensures, c .before .before .program-word .ensures, ← c .before .before .before .before .program-present .ensures, c .before .before .before .if1 .left)
 
 pub plan-fetched-spec : {M : Type 1} → statement M
 plan-fetched-spec =
@@ -35,6 +34,6 @@ plan-fetched-spec =
     refuse-requires
     returns
     program-word-requires
-    decode-requires
+    decode-by-requires
     plan-decoded-requires
     returns-2)

@@ -1,3 +1,8 @@
+use mathlib.Core.Path.{_≡_}
+use mathlib.Core.Bool.{false, not, _&&_}
+use mathlib.Core.Logic.{⊎-elim}
+use lib.Dec.{eqb}
+use Rattle.regions.specs.Regions.{programPresent}
 use Rattle.steps.specs.Stages.{instructionPlan}
 use Rattle.steps.specs.Table.{notRepeatable, secondAbsent, secondWord, secondAddress}
 use borrow.Author.Needs.{needs}
@@ -25,7 +30,7 @@ refuse-requires-2 c κs = search needs
 
 returns-2 : tie.Need-returns-2
 unfolding instructionPlan notRepeatable secondAbsent secondWord secondAddress
-returns-2 c = rw (c .refuse2 .ensures, ← c .before .before .before .before .before .before .before .before .traits-of .ensures, ← c .before .before .before .wrapped-sum .ensures, ← c .before .before .program-present .ensures, c .before .before .before .before .before .if1 .left, c .before .if2 .taken)
+returns-2 c = rw (c .refuse2 .ensures, ← c .before .before .before .before .before .before .before .before .before .traits-of .ensures, ← c .before .before .before .before .wrapped-sum .ensures, ← c .before .before .program-present .ensures, c .before .before .before .before .before .before .if1 .left, c .before .before .before .if2 .taken, c .before .if3 .taken)
 
 second-word-requires : tie.Need-second-word-requires
 second-word-requires c κs = search needs
@@ -35,7 +40,10 @@ plan-pass-requires c κs = search needs
 
 returns-3 : tie.Need-returns-3
 unfolding instructionPlan notRepeatable secondAbsent secondWord secondAddress
-returns-3 c = rw (c .plan-pass .ensures, c .before .second-word .ensures, ← c .before .before .before .before .before .before .before .before .before .traits-of .ensures, ← c .before .before .before .before .wrapped-sum .ensures, ← c .before .before .before .program-present .ensures, c .before .before .before .before .before .before .if1 .left, c .before .before .if2 .left)
+returns-3 c =
+    let there : (eqb (c .before .before .before .before .before .before .before .before .traits-of .result .words) 2 && not (programPresent (c .before .before .before .before .before .before .before .before .before .before .before .before .args .m .cnf) (c .before .before .before .wrapped-sum .result))) ≡ false
+    = ⊎-elim (λ w. rw (w .0 .taken, ← w .1 .ensures, w .2 .left)) (λ w. rw (w .left)) (c .before .before .if2 .came) in
+    rw (c .plan-pass .ensures, c .before .second-word .ensures, ← c .before .before .before .before .before .before .before .before .traits-of .ensures, ← c .before .before .before .wrapped-sum .ensures, c .before .before .before .before .before .if1 .left, there)
 
 pub plan-instruction-spec : {M : Type 1} → statement M
 plan-instruction-spec =

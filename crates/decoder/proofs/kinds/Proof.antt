@@ -1,0 +1,11 @@
+use mathlib.Core.Path.{refl}
+use Rattle.kinds.specs.Table.{kindTable}
+use Rattle.decoder.proofs.kinds.Statement.{statement}
+use Rattle.decoder.proofs.kinds.Tie as tie
+
+returns : tie.Need-returns
+unfolding kindTable
+returns c = refl
+
+pub kinds-spec : {M : Type 1} → statement M
+kinds-spec = tie.close (tie.spec returns)

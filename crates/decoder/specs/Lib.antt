@@ -1,0 +1,4 @@
+-- definitions
+pub mod ByTable
+-- proofs
+pub mod Ranges
