@@ -8,8 +8,12 @@ use Rattle.runfile.proofs.reading.head_of.Reads as HeadOf
 use Rattle.setting_up.proofs.set_up.Reads as SetUp
 use Rattle.writing.proofs.file_length.Reads as FileLength
 use Rattle.writing.proofs.write_file.Reads as WriteFile
-use Rattle.line.proofs.lines.run_line.Reads as RunLine
-use Rattle.line.proofs.lines.refused_line.Reads as RefusedLine
+use Rattle.digits.proofs.digit.Reads as Digit
+use Rattle.digits.proofs.decimal_length.Reads as DecimalLength
+use Rattle.fields.proofs.fitting.fit_line.Reads as FitLine
+use Rattle.fields.proofs.fitting.fit_number.Reads as FitNumber
+use Rattle.line.proofs.run_line.Reads as RunLine
+use Rattle.line.proofs.refused_line.Reads as RefusedLine
 use Rattle.replaying.proofs.replayed.Reads as Replayed
 use denote.Ref.{now}
 use Rattle.results.specs.One.{OneOutcome, OneResult, pair, same, both}
@@ -40,6 +44,18 @@ file-length κs a r r′ e e′ p q = same p q
 
 pub write-file : OneOutcome WriteFile.Post (λ r e. pair r (now (e .1 .1 .1 .1 .0)))
 write-file κs a r r′ e e′ p q = both (same (p .0) (q .0)) (same (p .1) (q .1))
+
+pub digit : OneResult Digit.Post
+digit κs a r r′ e e′ p q = same p q
+
+pub decimal-length : OneResult DecimalLength.Post
+decimal-length κs a r r′ e e′ p q = same p q
+
+pub fit-line : OneOutcome FitLine.Post (λ r e. pair r (now (e .0)))
+fit-line κs a r r′ e e′ p q = both (same (p .0) (q .0)) (same (p .1) (q .1))
+
+pub fit-number : OneOutcome FitNumber.Post (λ r e. pair r (now (e .0)))
+fit-number κs a r r′ e e′ p q = both (same (p .0) (q .0)) (same (p .1) (q .1))
 
 pub run-line : OneOutcome RunLine.Post (λ r e. pair r (now (e .1 .1 .1 .1 .0)))
 run-line κs a r r′ e e′ p q = both (same (p .0) (q .0)) (same (p .1) (q .1))
