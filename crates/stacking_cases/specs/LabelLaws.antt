@@ -38,10 +38,10 @@ use Rattle.instructions.specs.declared.Address.the-variants.{Direct}
 use Rattle.instructions.specs.declared.Modes.the-variants.{Rptk}
 use Rattle.instructions.specs.declared.Multiplier.the-variants.{Mac}
 use Rattle.steps.specs.World.{World}
 use Rattle.stacking.specs.Stacking.{wordAhead, by-rptk, by-mac, Sized, Stacks, lastWorld}
 use Rattle.stacking.specs.Demand.{demand}
-use Rattle.stacking.specs.Cases.{romWith, worldWith, runWith}
+use Rattle.stacking_cases.specs.Cases.{romWith, worldWith, runWith}
 use Rattle.stacking.specs.Label.{Overflows, MostFrames}
 
 -- a list whose words all have 16 bits, by a test
 allSized : List ℕ → Bool

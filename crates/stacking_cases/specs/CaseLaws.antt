@@ -30,7 +30,7 @@ use Rattle.steps.specs.Table.{checksOf, decodedAt, secondAddress, secondWord, n
 use Rattle.steps.specs.Step.{pagePlan, planOf, stored, stepOf, runOf}
 use Rattle.answers.specs.Numbers.{numberOf}
 use Rattle.steps.specs.World.{RunOutcome}
-use Rattle.stacking.specs.Cases.{romWith, worldWith, runWith}
+use Rattle.stacking_cases.specs.Cases.{romWith, worldWith, runWith}
 
 -- answer, steps, ACC and OV of a run
 abbrev pub shown : RunOutcome → List ℕ
