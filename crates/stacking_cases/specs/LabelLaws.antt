@@ -7,32 +7,16 @@ use native.Mathlib.Omega.{arith, by-contra, both-ways}
 use lib.Dec.{ltb}
 use lib.ListN.{getD}
 use borrow.Author.Tests.{ltb-true}
-use Rattle.words.specs.Word.{signed, low}
-use Rattle.sums.specs.Sums.{holds, held, settled, carry, noBorrow, added, subtracted}
-use Rattle.products.specs.Products.{product, productWord, scaled, amountOf, shiftedProduct, productHigh, productLow}
-use Rattle.registers.specs.Registers.{wrappedSum, wrappedDifference, reversed, reversedSum}
+use Rattle.registers.specs.Registers.{wrappedSum}
 use Rattle.machine.specs.Reset.{resetMachine}
-use Rattle.machine.specs.Range.{inRange}
+use Rattle.answers.specs.declared.Answer.the-variants.{Done}
+use Rattle.answers.specs.Numbers.{isDone}
+use Rattle.answers.specs.NumberLaws.{number-injective}
 use Rattle.instructions.specs.Encoding.{lowFits, modificationOf, nextOf, indirectOf, addressOf}
 use Rattle.instructions.specs.Decode.{decodeOf}
-use Rattle.traits.specs.Pages.{traitsOf, multiplierTraits, modesTraits}
-use Rattle.addressing.specs.Addressing.{moved, pointed, modified, addressed}
-use Rattle.addressing.specs.Addressing as addressing
-use Rattle.multiplier.specs.Pages.{APAC, MAC, tableAddress}
-use Rattle.modes.specs.Pages.{RPTK}
-use Rattle.modes.specs.Rule.{modesRule}
-use Rattle.multiplier.specs.Rule.{multiplierRule}
-use Rattle.rules.specs.Rules.{ruleOf}
-use Rattle.passes.specs.Passes.{followed, destination}
-use Rattle.regions.specs.Regions.{dataRegion, dataPresent, inRom, inProgramB0, programPresent}
-use Rattle.slices.specs.Slices.{memoriesFit, portFits, portSpent, slicesFit}
+use Rattle.regions.specs.Regions.{inRom, inProgramB0}
 use Rattle.windows.specs.Windows.{windowOf, programWord}
-use Rattle.refusals.specs.Rows.{firstGiven}
-use Rattle.refusals.specs.Refusals.{accesses, wrongPort, sends, addressAbove, dataAbsent, tableAbsent, outputFull}
-use Rattle.stores.specs.Stores.{writeOf, dataAfter, outputAfter}
-use Rattle.plans.specs.Pass.{readWord, wordsRead, effectOf, passedMachine, passedWrite, performed}
-use Rattle.steps.specs.Table.{checksOf, decodedAt, secondAddress, secondWord, notRepeatable, secondAbsent, tableFor, refusalOf}
-use Rattle.steps.specs.Step.{pagePlan, planOf, stored, stepOf, runOf}
+use Rattle.steps.specs.Table.{decodedAt}
 use Rattle.instructions.specs.declared.Instruction.the-variants as Family
 use Rattle.instructions.specs.declared.Address.the-variants.{Direct}
 use Rattle.instructions.specs.declared.Modes.the-variants.{Rptk}
@@ -41,6 +25,7 @@ use Rattle.steps.specs.World.{World}
 use Rattle.stacking.specs.Stacking.{wordAhead, by-rptk, by-mac, Sized, Stacks, lastWorld}
 use Rattle.stacking.specs.Demand.{demand}
 use Rattle.stacking_cases.specs.Cases.{romWith, worldWith, runWith}
+use Rattle.stacking_cases.specs.CaseLaws.{computed}
 use Rattle.stacking.specs.Label.{Overflows, MostFrames}
 
 -- a list whose words all have 16 bits, by a test
@@ -61,10 +46,11 @@ sized-at (x ∷ xs) h (suc i) = sized-at xs (both (ltb x 65536) _ h .1) i
 sized-by : (l : List ℕ) → allSized l ≡ true → Sized l
 sized-by l h = record { bits = sized-at l h }
 
--- 128 frames of -32768 alone
+-- 128 frames of -32768 alone; the run is that of the cases
 pub overflows-128 : Overflows 127
-unfolding wordAhead lastWorld allSized signed low holds held settled carry noBorrow added subtracted product productWord scaled amountOf shiftedProduct productHigh productLow wrappedSum wrappedDifference reversed reversedSum resetMachine inRange lowFits modificationOf nextOf indirectOf addressOf decodeOf traitsOf multiplierTraits moved pointed modified addressed addressing.addressOf APAC tableAddress multiplierRule ruleOf followed destination dataRegion dataPresent inRom inProgramB0 programPresent memoriesFit portFits portSpent slicesFit windowOf programWord firstGiven accesses wrongPort sends addressAbove dataAbsent tableAbsent outputFull readWord wordsRead effectOf writeOf passedMachine passedWrite performed dataAfter outputAfter decodedAt secondAddress secondWord notRepeatable secondAbsent tableFor refusalOf pagePlan planOf stored stepOf modesTraits MAC RPTK modesRule checksOf runOf romWith worldWith runWith
+unfolding wordAhead lastWorld allSized resetMachine lowFits modificationOf nextOf indirectOf addressOf decodeOf inRom inProgramB0 windowOf programWord decodedAt wrappedSum romWith worldWith runWith
 overflows-128 =
+    let held = computed .all-128-held in
     record {
       rom = romWith 127 0x8000;
       input = [];
@@ -82,11 +68,11 @@ overflows-128 =
         accumulate-second = refl;
         accumulates = by-mac (Direct 0x60);
         apac-third = refl;
-        not-refused = refl;
+        not-refused = ap isDone (number-injective (runWith 127 0x8000 1 .answer) Done (ap (λ (l : List ℕ). getD l 0 0) held));
         rom-sized = sized-by (romWith 127 0x8000) refl;
         data-sized = sized-by (worldWith 1 .«data») refl;
       };
-      overflowed = refl;
+      overflowed = ap (λ (l : List ℕ). getD l 3 0) held;
     }
 
 pub most-127 : MostFrames 127
