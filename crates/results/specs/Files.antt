@@ -5,6 +5,7 @@ use Rattle.runfile.proofs.numbers.counts_kept.Reads as CountsKept
 use Rattle.runfile.proofs.numbers.rules_kept.Reads as RulesKept
 use Rattle.runfile.proofs.reading.read_answer.Reads as ReadAnswer
 use Rattle.runfile.proofs.reading.head_of.Reads as HeadOf
+use Rattle.set_up_answers.proofs.set_up_answer.Reads as SetUpAnswer
 use Rattle.setting_up.proofs.set_up.Reads as SetUp
 use Rattle.writing.proofs.file_length.Reads as FileLength
 use Rattle.writing.proofs.write_file.Reads as WriteFile
@@ -35,6 +36,9 @@ read-answer κs a r r′ e e′ p q = same p q
 
 pub head-of : OneResult HeadOf.Post
 head-of κs a r r′ e e′ p q = same p q
+
+pub set-up-answer : OneResult SetUpAnswer.Post
+set-up-answer κs a r r′ e e′ p q = same p q
 
 pub set-up : OneOutcome SetUp.Post (λ r e. pair r (pair (now (e .1 .0)) (pair (now (e .1 .1 .0)) (now (e .1 .1 .1 .0)))))
 set-up κs a r r′ e e′ p q = both (same (p .0) (q .0)) (both (same (p .1 .0) (q .1 .0)) (both (same (p .1 .1 .0) (q .1 .1 .0)) (same (p .1 .1 .1) (q .1 .1 .1))))

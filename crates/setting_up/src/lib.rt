@@ -8,7 +8,7 @@ ghost use Rattle.setting_up.specs.SetUp.{lent, setUpAnswer, memoryWith, 
 ghost use Rattle.setting_up.specs.SetUpFacts.{SetUpDone};
 use answers::Answer;
 use runfile::numbers;
-use runfile::reading;
+use set_up_answers::set_up_answer;
 
 // The words of each of the two memories.
 const MEMORY_WORDS: usize = 4096;
@@ -50,22 +50,6 @@ fn fill_memory(bytes: &[u8], at: u16, count: u16, memory: &mut [u16], address: u
 {
     clear(memory);
     load_words(bytes, at, count, memory, address);
-}
-
-// What setting up answers: a file's 20, 21 and 22, then 2.
-fn set_up_answer(bytes: &[u8], rom: &[u16], data: &[u16], input: &[u16]) -> Answer
-    ensures { λ r. ⌜ r ≡ setUpAnswer (now (bytes .entry)) (lent (now (rom .entry)) (now («data» .entry)) (now (input .entry))) ⌝ }
-{
-    let read = reading::read_answer(bytes);
-    if !answers::is_done(read) {
-        return read;
-    }
-    let head = reading::head_of(bytes);
-    if slices::memories_fit(rom, data) & (input.len() == head.input_count as usize) {
-        Answer::Done
-    } else {
-        Answer::SlicesUnfit
-    }
 }
 
 // The sections of an accepted file, into slices that fit it.
