@@ -5,14 +5,13 @@ The expected values are those of the text. Run it in this folder after a change 
 """
 import re
 
-# The places that a case may name: the number that the program knows each by, and how many hexadecimal digits are printed of it.
-CELLS = {name: (0x6000 + at, digits) for name, at, digits in [
-    ('ACC', 0, 8), ('P', 1, 8), ('T', 2, 4), ('PC', 3, 4), ('PFC', 4, 4), ('DP', 5, 3), ('RPTC', 6, 2), ('ICUR', 7, 3), ('OCUR', 8, 3),
-    ('ARP', 16, 1), ('ARB', 17, 1), ('PM', 18, 1), ('OV', 19, 1), ('OVM', 20, 1), ('SXM', 21, 1), ('C', 22, 1), ('CNF', 23, 1),
-    ('MID', 24, 1)]}
-CELLS.update({'AR%d' % at: (0x4000 + at, 4) for at in range(8)})
-CELLS.update({'S%d' % at: (0x5000 + at, 4) for at in range(8)})
-CELLS.update({'ANS': (0x7000, 2), 'STEPS': (0x7001, 4)})
+# The cells in the library's order, and how many hexadecimal digits are printed of each.
+NAMED = [('ACC', 8), ('P', 8), ('T', 4), ('PC', 4), ('PFC', 4)] + [('AR%d' % at, 4) for at in range(8)]
+NAMED += [('ARP', 1), ('ARB', 1), ('DP', 3), ('PM', 1), ('OV', 1), ('OVM', 1), ('SXM', 1), ('C', 1), ('CNF', 1), ('MID', 1), ('RPTC', 2)]
+NAMED += [('S%d' % at, 4) for at in range(8)] + [('ICUR', 3), ('OCUR', 3)]
+# The places that a case may name: the number that the program knows each by, and those digits.
+CELLS = {name: (0x4000 + at, digits) for at, (name, digits) in enumerate(NAMED)}
+CELLS.update({'ANS': (0x5000, 2), 'STEPS': (0x6000, 4)})
 BANKS = {'M': (0x0000, 0xFFF), 'R': (0x1000, 0xFFF), 'I': (0x2000, 3), 'O': (0x3000, 3)}
 
 

@@ -21,7 +21,8 @@ use Rattle.emulator.specs.declared.Ran.{Ran}
 use Rattle.steps.specs.World.{World, RunOutcome}
 use Rattle.emulator.specs.Outcomes.{ran}
 use Rattle.steps.specs.Step.{runOf}
-use Rattle.line.specs.Lines.{lineOf, refusedLine, lineIn, lengthIn}
+use Rattle.fields.specs.Placing.{lineIn, lengthIn}
+use Rattle.line.specs.Lines.{lineOf, refusedLine}
 use Rattle.replaying.specs.Replay.{startOf, replayRun, runLine, replayLine}
 use Rattle.replaying.specs.Facts.{FreshSlices}
 

@@ -1,15 +1,14 @@
 // From the bytes of a run file to its line: all of `replay` but reading and writing.
 ghost use mathlib.Core.Path.{_≡_};
 ghost use mathlib.Core.Bool.{true};
-ghost use lib.ListN.{length, replicate};
 ghost use Rattle.answers.specs.Numbers.{isDone};
 ghost use Rattle.runfile.specs.Files.{readAnswer, readContents};
-ghost use Rattle.line.specs.Lines.{lineIn, lengthIn};
+ghost use Rattle.fields.specs.Placing.{lineIn, lengthIn};
 ghost use Rattle.replaying.specs.Replay.{replayRun, runLine, replayLine};
 ghost use Rattle.replaying.specs.Facts.{FreshSlices};
 use emulator::run;
-use line::lines::refused_line;
-use line::lines::run_line;
+use line::refused_line;
+use line::run_line;
 use machine::Machine;
 use runfile::reading::head_of;
 use runfile::reading::read_answer;
@@ -37,20 +36,6 @@ fn replay_in(
     run_line(m, answer, ran.steps, output, line)
 }
 
-// A memory to be set up.
-fn memory() -> [u16; 4096]
-    ensures { λ r. ⌜ 4096 ≡ length r ⌝ }
-{
-    [0; 4096]
-}
-
-// The words of a port.
-fn port() -> [u16; 1024]
-    ensures { λ r. ⌜ (1024 ≡ length r) × (r ≡ replicate 1024 0) ⌝ }
-{
-    [0; 1024]
-}
-
 // An accepted file, with memories and ports of its own.
 fn replay_accepted(bytes: &[u8], line: &mut [u8]) -> usize
     requires { ⌜ isDone (readAnswer (now bytes)) ≡ true ⌝ }
@@ -58,10 +43,10 @@ fn replay_accepted(bytes: &[u8], line: &mut [u8]) -> usize
 {
     let head = head_of(bytes);
     let count = head.input_count as usize;
-    let mut rom = memory();
-    let mut data = memory();
-    let mut input = port();
-    let mut output = port();
+    let mut rom = [0; 4096];
+    let mut data = [0; 4096];
+    let mut input = [0; 1024];
+    let mut output = [0; 1024];
     replay_in(
         bytes,
         head.budget,

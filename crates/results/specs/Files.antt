@@ -5,11 +5,16 @@ use Rattle.runfile.proofs.numbers.counts_kept.Reads as CountsKept
 use Rattle.runfile.proofs.numbers.rules_kept.Reads as RulesKept
 use Rattle.runfile.proofs.reading.read_answer.Reads as ReadAnswer
 use Rattle.runfile.proofs.reading.head_of.Reads as HeadOf
+use Rattle.set_up_answers.proofs.set_up_answer.Reads as SetUpAnswer
 use Rattle.setting_up.proofs.set_up.Reads as SetUp
 use Rattle.writing.proofs.file_length.Reads as FileLength
 use Rattle.writing.proofs.write_file.Reads as WriteFile
-use Rattle.line.proofs.lines.run_line.Reads as RunLine
-use Rattle.line.proofs.lines.refused_line.Reads as RefusedLine
+use Rattle.digits.proofs.digit.Reads as Digit
+use Rattle.digits.proofs.decimal_length.Reads as DecimalLength
+use Rattle.fields.proofs.fitting.fit_line.Reads as FitLine
+use Rattle.fields.proofs.fitting.fit_number.Reads as FitNumber
+use Rattle.line.proofs.run_line.Reads as RunLine
+use Rattle.line.proofs.refused_line.Reads as RefusedLine
 use Rattle.replaying.proofs.replayed.Reads as Replayed
 use denote.Ref.{now}
 use Rattle.results.specs.One.{OneOutcome, OneResult, pair, same, both}
@@ -32,6 +37,9 @@ read-answer κs a r r′ e e′ p q = same p q
 pub head-of : OneResult HeadOf.Post
 head-of κs a r r′ e e′ p q = same p q
 
+pub set-up-answer : OneResult SetUpAnswer.Post
+set-up-answer κs a r r′ e e′ p q = same p q
+
 pub set-up : OneOutcome SetUp.Post (λ r e. pair r (pair (now (e .1 .0)) (pair (now (e .1 .1 .0)) (now (e .1 .1 .1 .0)))))
 set-up κs a r r′ e e′ p q = both (same (p .0) (q .0)) (both (same (p .1 .0) (q .1 .0)) (both (same (p .1 .1 .0) (q .1 .1 .0)) (same (p .1 .1 .1) (q .1 .1 .1))))
 
@@ -40,6 +48,18 @@ file-length κs a r r′ e e′ p q = same p q
 
 pub write-file : OneOutcome WriteFile.Post (λ r e. pair r (now (e .1 .1 .1 .1 .0)))
 write-file κs a r r′ e e′ p q = both (same (p .0) (q .0)) (same (p .1) (q .1))
+
+pub digit : OneResult Digit.Post
+digit κs a r r′ e e′ p q = same p q
+
+pub decimal-length : OneResult DecimalLength.Post
+decimal-length κs a r r′ e e′ p q = same p q
+
+pub fit-line : OneOutcome FitLine.Post (λ r e. pair r (now (e .0)))
+fit-line κs a r r′ e e′ p q = both (same (p .0) (q .0)) (same (p .1) (q .1))
+
+pub fit-number : OneOutcome FitNumber.Post (λ r e. pair r (now (e .0)))
+fit-number κs a r r′ e e′ p q = both (same (p .0) (q .0)) (same (p .1) (q .1))
 
 pub run-line : OneOutcome RunLine.Post (λ r e. pair r (now (e .1 .1 .1 .1 .0)))
 run-line κs a r r′ e e′ p q = both (same (p .0) (q .0)) (same (p .1) (q .1))

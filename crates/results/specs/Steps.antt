@@ -6,9 +6,9 @@ use Rattle.plans.proofs.plan_pass.Reads as PlanPass
 use Rattle.fetching.proofs.plan_fetched.Reads as PlanFetched
 use Rattle.emulator.proofs.step.Reads as Step
 use Rattle.emulator.proofs.run.Reads as Run
-use Rattle.stacking.proofs.most_frames.Reads as MostFrames
+use Rattle.label.proofs.most_frames.Reads as MostFrames
 use Rattle.emulator.specs.Outcomes.{stepped, ran}
-use Rattle.stacking.specs.LabelLaws.{one-figure}
+use Rattle.stacking_cases.specs.LabelLaws.{one-figure}
 use denote.Ref.{now}
 use Rattle.results.specs.One.{OneOutcome, OneResult, same}
 

@@ -8,13 +8,13 @@ ghost use Rattle.setting_up.specs.SetUp.{lent, setUpAnswer, memoryWith, 
 ghost use Rattle.setting_up.specs.SetUpFacts.{SetUpDone};
 use answers::Answer;
 use runfile::numbers;
-use runfile::reading;
+use set_up_answers::set_up_answer;
 
 // The words of each of the two memories.
 const MEMORY_WORDS: usize = 4096;
 
 // "Data go to 0400h onward"
-const DATA_START: usize = 0x400;
+const DATA_START: u16 = 0x400;
 
 // Every word of a memory becomes 0.
 fn clear(memory: &mut [u16])
@@ -29,40 +29,27 @@ fn clear(memory: &mut [u16])
 }
 
 // The run of words of a file from a place on, stored from an address on.
-fn load_words(bytes: &[u8], at: usize, count: usize, words: &mut [u16], address: usize)
+fn load_words(bytes: &[u8], at: u16, count: u16, words: &mut [u16], address: u16)
     requires { ⌜ (at + 2 * count ≤ length (now bytes)) × (address + count ≤ length (now words)) ⌝ }
     ensures { λ _. ⌜ now (words .exit) ≡ sets (now (words .entry)) address (wordsAt (now (bytes .entry)) at count) ⌝ }
 {
-    let mut k: usize = 0;
+    let mut k: u16 = 0;
     while k < count {
-        words[address + k] = numbers::word_at(bytes, at + 2 * k);
+        words[address as usize + k as usize] = numbers::word_at(
+            bytes,
+            at as usize + 2 * k as usize,
+        );
         k += 1;
     }
 }
 
 // A memory that holds 0 but for a run of words of a file, from an address on.
-fn fill_memory(bytes: &[u8], at: usize, count: usize, memory: &mut [u16], address: usize)
+fn fill_memory(bytes: &[u8], at: u16, count: u16, memory: &mut [u16], address: u16)
     requires { ⌜ (at + 2 * count ≤ length (now bytes)) × (address + count ≤ 4096) × (length (now memory) ≡ 4096) ⌝ }
     ensures { λ _. ⌜ now (memory .exit) ≡ memoryWith address (wordsAt (now (bytes .entry)) at count) ⌝ }
 {
     clear(memory);
     load_words(bytes, at, count, memory, address);
-}
-
-// What setting up answers: a file's 20, 21 and 22, then 2.
-fn set_up_answer(bytes: &[u8], rom: &[u16], data: &[u16], input: &[u16]) -> Answer
-    ensures { λ r. ⌜ r ≡ setUpAnswer (now (bytes .entry)) (lent (now (rom .entry)) (now («data» .entry)) (now (input .entry))) ⌝ }
-{
-    let read = reading::read_answer(bytes);
-    if !answers::is_done(read) {
-        return read;
-    }
-    let head = reading::head_of(bytes);
-    if slices::memories_fit(rom, data) & (input.len() == head.input_count as usize) {
-        Answer::Done
-    } else {
-        Answer::SlicesUnfit
-    }
 }
 
 // The sections of an accepted file, into slices that fit it.
@@ -71,15 +58,9 @@ fn load_file(bytes: &[u8], rom: &mut [u16], data: &mut [u16], input: &mut [u16])
     ensures { λ _. ⌜ lent (now (rom .exit)) (now («data» .exit)) (now (input .exit)) ≡ loaded (sectionsOf (now (bytes .entry))) ⌝ }
 {
     let n = numbers::numbers_of(bytes);
-    let program_count = n.program_count as usize;
-    let program_offset = n.program_offset as usize;
-    let data_count = n.data_count as usize;
-    let data_offset = n.data_offset as usize;
-    let input_count = n.input_count as usize;
-    let input_offset = n.input_offset as usize;
-    fill_memory(bytes, program_offset, program_count, rom, 0);
-    fill_memory(bytes, data_offset, data_count, data, DATA_START);
-    load_words(bytes, input_offset, input_count, input, 0);
+    fill_memory(bytes, n.program_offset, n.program_count, rom, 0);
+    fill_memory(bytes, n.data_offset, n.data_count, data, DATA_START);
+    load_words(bytes, n.input_offset, n.input_count, input, 0);
 }
 
 // Both memories and the input slice from a file. A refusal changes none of them.

@@ -1,9 +1,1 @@
-// The figure on the camera's label.
-ghost use Rattle.stacking.specs.Label.{MostFrames};
-
-// The most frames in a stack, with product shift 3 and the sum from zero.
-pub fn most_frames() -> u16
-    ensures { λ r. ⌜ MostFrames r ⌝ }
-{
-    127
-}
+// Demand 3 over the emulator's runs, as laws; specs/ has all of it.

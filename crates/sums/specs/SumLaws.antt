@@ -1,11 +1,11 @@
 -- What `settled` comes to, from facts that omega reads.
 use mathlib.Core.Path.{_≡_, refl, sym, _∙_, ap}
-use mathlib.Core.Bool.{Bool, true, false, cond}
+use mathlib.Core.Bool.{Bool, true, false, cond, _||_}
 use Prim.Native.Nat.{ℕ, zero, suc, _+_, _*_, _-_, _/_, _%_, _^_, _≤_, _<_}
 use native.Mathlib.Omega.{arith}
-use lib.Dec.{leb, eqb}
+use lib.Dec.{leb, ltb, eqb}
 use lib.IntN.{ℤ, pos, negsuc, negℤ, subℕ, _+ℤ_, _-ℤ_}
-use borrow.Author.Tests.{lt-ltb, le-ltb, le-leb, lt-leb, leb-true, leb-false}
+use borrow.Author.Tests.{lt-ltb, le-ltb, le-leb, lt-leb, leb-true, leb-false, ltb-true, ltb-false}
 use Rattle.words.specs.Whole.{up, dn, part, sub-is, add-is, minus-is, eq-from}
 use Rattle.words.specs.Word.{signed, low}
 use Rattle.words.specs.WordLaws.{signed-is, low-is}
@@ -48,28 +48,46 @@ net-is m b = sub-is m (2 ^ 32 * b)
 pub net-eq : (m b : ℕ) (s : ℤ) → up s + 2 ^ 32 * b ≡ m + dn s → net m b ≡ s
 net-eq m b s h = eq-from (net m b) s (omega (arith, net-is m b))
 
--- the result where an overflow is told and not worked out
-unfoldable pub overflowedAs : ℕ → ℕ → ℕ → ℕ → Sum
+-- ACC where an overflow is told and not worked out
+unfoldable pub heldAs : ℕ → Bool → Bool → ℕ → ℕ
+heldAs low over under ovm = cond (eqb ovm 1) (cond over 0x7FFF_FFFF (cond under 0x8000_0000 low)) low
+
+-- the result where an overflow is told
+abbrev overflowedAs : ℕ → ℕ → ℕ → ℕ → Sum
 overflowedAs low most ovm c = record { acc = cond (eqb ovm 1) most low; ov = 1; c = c }
 
+either-way : (t : Bool) (x : ℕ) → cond t x x ≡ x
+either-way true x = refl
+either-way false x = refl
+
 module _ (m b ov ovm c : ℕ) where
-  pub settles-over : 2 ^ 32 * b + 2 ^ 31 ≤ m → settled (net m b) ov ovm c ≡ overflowedAs (m % 2 ^ 32) 0x7FFF_FFFF ovm c
-  unfolding settled overflowedAs
+  settles-over : 2 ^ 32 * b + 2 ^ 31 ≤ m → settled (net m b) ov ovm c ≡ overflowedAs (m % 2 ^ 32) 0x7FFF_FFFF ovm c
+  unfolding settled
   settles-over h =
       let is = net-is m b in
       simp (holds-over (net m b) (omega arith), held-over (net m b) (omega arith), low-is (net m b) m b 0 (omega arith))
 
-  pub settles-under : m + 2 ^ 31 < 2 ^ 32 * b → settled (net m b) ov ovm c ≡ overflowedAs (m % 2 ^ 32) 0x8000_0000 ovm c
-  unfolding settled overflowedAs
+  settles-under : m + 2 ^ 31 < 2 ^ 32 * b → settled (net m b) ov ovm c ≡ overflowedAs (m % 2 ^ 32) 0x8000_0000 ovm c
+  unfolding settled
   settles-under h =
       let is = net-is m b in
       simp (holds-under (net m b) (omega arith), held-under (net m b) (omega arith), low-is (net m b) m b 0 (omega arith))
 
-  pub settles-in : 2 ^ 32 * b ≤ m + 2 ^ 31 → m < 2 ^ 32 * b + 2 ^ 31 → settled (net m b) ov ovm c ≡ record { acc = m % 2 ^ 32; ov = ov; c = c }
+  settles-in : 2 ^ 32 * b ≤ m + 2 ^ 31 → m < 2 ^ 32 * b + 2 ^ 31 → settled (net m b) ov ovm c ≡ record { acc = m % 2 ^ 32; ov = ov; c = c }
   unfolding settled
   settles-in h k =
       let is = net-is m b in
       simp (holds-in (net m b) (part (net m b) (λ d. omega arith) (λ u d. omega arith)) (part (net m b) (λ d. omega arith) (λ u d. omega arith)), low-is (net m b) m b 0 (omega arith))
+
+  pub settles : (over under : Bool) → leb (b * 2 ^ 32 + 2 ^ 31) m ≡ over → ltb (m + 2 ^ 31) (b * 2 ^ 32) ≡ under
+      → record { acc = heldAs (m % 2 ^ 32) over under ovm; ov = cond (over || under) 1 ov; c = c } ≡ settled (net m b) ov ovm c
+  unfolding heldAs
+  settles true under e f = let h = leb-true _ _ e in sym (settles-over (omega arith))
+  settles false true e f = let h = ltb-true _ _ f in sym (settles-under (omega arith))
+  settles false false e f =
+      let h = leb-false _ _ e in
+      let k = ltb-false _ _ f in
+      ap (λ (x : ℕ). record { acc = x; ov = ov; c = c }) (either-way (eqb ovm 1) (m % 2 ^ 32)) ∙ sym (settles-in (omega arith) (omega arith))
 
 -- A sum and a difference, as such numbers: a word's sign bit, w / 2 ^ 31, is worth 2 ^ 32 less
 pub add-net : (acc x : ℕ) → net (acc + x) (acc / 2 ^ 31 + x / 2 ^ 31) ≡ signed 32 acc +ℤ signed 32 x

@@ -1,8 +1,9 @@
 // Sums and differences of the accumulator.
 ghost use mathlib.Core.Path.{_≡_};
+ghost use mathlib.Core.Bool.{cond};
 ghost use Prim.Native.Nat.{_<_, _^_};
 ghost use Rattle.sums.specs.Sums.{added, subtracted, settled};
-ghost use Rattle.sums.specs.SumLaws.{net, overflowedAs};
+ghost use Rattle.sums.specs.SumLaws.{net, heldAs};
 
 // What a sum or a difference leaves in ACC, OV and C.
 pub struct Sum {
@@ -11,34 +12,45 @@ pub struct Sum {
     pub c: u8,
 }
 
-// The exact result `m` less `less` times 2^32, brought to 32 bits.
+// ACC after an exact result that is over the largest number, under the smallest, or neither.
+fn held_word(low: u32, over: bool, under: bool, ovm: u8) -> u32
+    ensures { λ r. ⌜ r ≡ heldAs low over under ovm ⌝ }
+{
+    if ovm != 1 {
+        return low;
+    }
+    if over {
+        return 0x7FFF_FFFF;
+    }
+    if under {
+        return 0x8000_0000;
+    }
+    low
+}
+
+fn overflow_flag(overflows: bool, ov: u8) -> u8
+    ensures { λ r. ⌜ r ≡ cond overflows 1 ov ⌝ }
+{
+    if overflows {
+        return 1;
+    }
+    ov
+}
+
+// The exact result `m` less `less` times 2^32, brought to 32 bits. Each cell by itself: the compiler then keeps them in registers.
 fn settle(m: u64, less: u64, ov: u8, ovm: u8, c: u8) -> Sum
     requires { ⌜ (m < 2 ^ 34) × (less < 4) ⌝ }
     ensures { λ r. ⌜ r ≡ settled (net m less) ov ovm c ⌝ }
 {
     let base = less * 4294967296;
     let low = (m % 4294967296) as u32;
-    if base + 2147483648 <= m {
-        return overflowed(low, 0x7FFF_FFFF, ovm, c);
+    let over = base + 2147483648 <= m;
+    let under = m + 2147483648 < base;
+    Sum {
+        acc: held_word(low, over, under, ovm),
+        ov: overflow_flag(over | under, ov),
+        c,
     }
-    if m + 2147483648 < base {
-        return overflowed(low, 0x8000_0000, ovm, c);
-    }
-    Sum { acc: low, ov, c }
-}
-
-// An overflow: OV is 1, and ACC is held at `most` where OVM says so.
-fn overflowed(low: u32, most: u32, ovm: u8, c: u8) -> Sum
-    ensures { λ r. ⌜ r ≡ overflowedAs low most ovm c ⌝ }
-{
-    if ovm == 1 {
-        return Sum {
-            acc: most,
-            ov: 1,
-            c,
-        };
-    }
-    Sum { acc: low, ov: 1, c }
 }
 
 pub fn add(acc: u32, x: u32, ov: u8, ovm: u8) -> Sum

@@ -1,5 +1,7 @@
 use Rattle.replaying.specs.ReplayLaws.{input-most, budget-read, fresh}
-use mathlib.Core.Path.{sym}
+use mathlib.Core.Path.{refl, sym}
+use Prim.Native.Nat.{ℕ}
+use lib.ListN.{length-replicate}
 use lib.Seq.{length-take-le}
 use native.Mathlib.Omega.{arith}
 use borrow.Author.Needs.{needs}
@@ -12,18 +14,6 @@ head-of-requires c κs = search needs
 cast-count : tie.Need-cast-count
 cast-count c = search needs
 
-memory-requires : tie.Need-memory-requires
-memory-requires c κs = search needs
-
-memory-requires-2 : tie.Need-memory-requires-2
-memory-requires-2 c κs = search needs
-
-port-requires : tie.Need-port-requires
-port-requires c κs = search needs
-
-port-requires-2 : tie.Need-port-requires-2
-port-requires-2 c κs = search needs
-
 slice-aggregate-replay-in : tie.Need-slice-aggregate-replay-in
 slice-aggregate-replay-in c = search needs
 
@@ -31,16 +21,16 @@ slice-aggregate-replay-in-2 : tie.Need-slice-aggregate-replay-in-2
 slice-aggregate-replay-in-2 c = search needs
 
 array-borrow-prefix-input : tie.Need-array-borrow-prefix-input
-array-borrow-prefix-input c = let most = input-most _ _ (c .before .before .before .before .before .before .before .before .before .before .pre) (c .before .before .before .before .before .before .before .head-of .ensures) in omega (arith, c .before .before .before .port .ensures .0)
+array-borrow-prefix-input c = let most = input-most _ _ (c .before .before .before .before .before .before .pre) (c .before .before .before .head-of .ensures) in omega (arith, length-replicate {A = ℕ} 1024 0)
 
 slice-aggregate-replay-in-3 : tie.Need-slice-aggregate-replay-in-3
-slice-aggregate-replay-in-3 c = let most = input-most _ _ (c .before .before .before .before .before .before .before .before .before .before .before .pre) (c .before .before .before .before .before .before .before .before .head-of .ensures) in sym (length-take-le _ _ (omega (arith, c .before .before .before .before .port .ensures .0)))
+slice-aggregate-replay-in-3 c = let most = input-most _ _ (c .before .before .before .before .before .before .before .pre) (c .before .before .before .before .head-of .ensures) in sym (length-take-le _ _ (omega (arith, length-replicate {A = ℕ} 1024 0)))
 
 slice-aggregate-replay-in-4 : tie.Need-slice-aggregate-replay-in-4
 slice-aggregate-replay-in-4 c = search needs
 
 replay-in-requires : tie.Need-replay-in-requires
-replay-in-requires c κs = (c .before .before .before .before .before .before .before .before .before .before .before .before .before .pre, (budget-read _ _ (c .before .before .before .before .before .before .before .before .before .before .before .before .before .pre) (c .before .before .before .before .before .before .before .before .before .before .head-of .ensures), fresh _ _ (c .before .before .before .before .before .before .before .before .before .before .before .before .before .pre) (c .before .before .before .before .before .before .before .before .before .before .head-of .ensures) _ _ _ _ (c .before .before .before .before .before .before .before .before .memory .ensures) (c .before .before .before .before .before .before .before .memory2 .ensures) (c .before .before .before .before .before .before .port .ensures .0) (c .before .before .before .before .before .port2 .ensures .1)))
+replay-in-requires c κs = (c .before .before .before .before .before .before .before .before .before .pre, (budget-read _ _ (c .before .before .before .before .before .before .before .before .before .pre) (c .before .before .before .before .before .before .head-of .ensures), fresh _ _ (c .before .before .before .before .before .before .before .before .before .pre) (c .before .before .before .before .before .before .head-of .ensures) _ _ _ _ (sym (length-replicate {A = ℕ} 4096 0)) (sym (length-replicate {A = ℕ} 4096 0)) (sym (length-replicate {A = ℕ} 1024 0)) refl))
 
 same-length : tie.Need-same-length
 same-length c = search needs
@@ -54,10 +44,6 @@ replay-accepted-spec =
     (tie.spec
     head-of-requires
     cast-count
-    memory-requires
-    memory-requires-2
-    port-requires
-    port-requires-2
     slice-aggregate-replay-in
     slice-aggregate-replay-in-2
     array-borrow-prefix-input

@@ -7,32 +7,14 @@ use Rattle.setting_up.proofs.load_file.Tie as tie
 numbers-of-requires : tie.Need-numbers-of-requires
 numbers-of-requires c κs = search needs
 
-cast-program-count : tie.Need-cast-program-count
-cast-program-count c = search needs
-
-cast-program-offset : tie.Need-cast-program-offset
-cast-program-offset c = search needs
-
-cast-data-count : tie.Need-cast-data-count
-cast-data-count c = search needs
-
-cast-data-offset : tie.Need-cast-data-offset
-cast-data-offset c = search needs
-
-cast-input-count : tie.Need-cast-input-count
-cast-input-count c = search needs
-
-cast-input-offset : tie.Need-cast-input-offset
-cast-input-offset c = search needs
-
 fill-memory-requires : tie.Need-fill-memory-requires
-fill-memory-requires c κs = let d = c .before .before .before .before .before .before .before .before .before .before .before .before .pre in let e = c .before .before .before .before .before .before .before .numbers-of .ensures in rw e (omega arith, omega arith, omega arith)
+fill-memory-requires c κs = let d = c .before .before .before .before .before .before .pre in let e = c .before .numbers-of .ensures in rw e (omega arith, omega arith, omega arith)
 
 fill-memory-requires-2 : tie.Need-fill-memory-requires-2
-fill-memory-requires-2 c κs = let d = c .before .before .before .before .before .before .before .before .before .before .before .before .before .before .before .before .pre in let e = c .before .before .before .before .before .before .before .before .before .before .before .numbers-of .ensures in rw e (omega arith, omega arith, omega arith)
+fill-memory-requires-2 c κs = let d = c .before .before .before .before .before .before .before .before .before .before .pre in let e = c .before .before .before .before .before .numbers-of .ensures in rw e (omega arith, omega arith, omega arith)
 
 load-words-requires : tie.Need-load-words-requires
-load-words-requires c κs = let d = c .before .before .before .before .before .before .before .before .before .before .before .before .before .before .before .before .before .before .before .before .pre in let e = c .before .before .before .before .before .before .before .before .before .before .before .before .before .before .before .numbers-of .ensures in rw e (omega arith, omega arith)
+load-words-requires c κs = let d = c .before .before .before .before .before .before .before .before .before .before .before .before .before .before .pre in let e = c .before .before .before .before .before .before .before .before .before .numbers-of .ensures in rw e (omega arith, omega arith)
 
 same-length : tie.Need-same-length
 same-length c = search needs
@@ -44,19 +26,13 @@ same-length-3 : tie.Need-same-length-3
 same-length-3 c = search needs
 
 returns : tie.Need-returns
-returns c = sections-stored _ _ _ _ _ _ (c .before .before .before .before .before .before .before .before .before .before .before .before .before .before .before .before .before .before .before .before .before .before .before .pre .input-size) (c .before .before .before .before .before .before .before .before .before .before .before .before .before .before .before .before .before .before .numbers-of .ensures) (c .before .before .before .before .before .before .before .before .before .before .fill-memory .ensures) (c .before .before .before .before .before .before .fill-memory2 .ensures) (c .before .before .load-words .ensures)
+returns c = sections-stored _ _ _ _ _ _ (c .before .before .before .before .before .before .before .before .before .before .before .before .before .before .before .before .before .pre .input-size) (c .before .before .before .before .before .before .before .before .before .before .before .before .numbers-of .ensures) (c .before .before .before .before .before .before .before .before .before .before .fill-memory .ensures) (c .before .before .before .before .before .before .fill-memory2 .ensures) (c .before .before .load-words .ensures)
 
 pub load-file-spec : {M : Type 1} → statement M
 load-file-spec =
     tie.close
     (tie.spec
     numbers-of-requires
-    cast-program-count
-    cast-program-offset
-    cast-data-count
-    cast-data-offset
-    cast-input-count
-    cast-input-offset
     fill-memory-requires
     fill-memory-requires-2
     load-words-requires

@@ -14,6 +14,9 @@ abbrev μ-loop : tie.MeasureT-loop
 loop-holds : tie.Need-loop-holds Inv-loop μ-loop
 loop-holds c = loaded-none _ _ _ _ _
 
+cast-word-at : tie.Need-cast-word-at Inv-loop μ-loop
+cast-word-at c = search needs
+
 mul-word-at : tie.Need-mul-word-at Inv-loop μ-loop
 mul-word-at c = search needs
 
@@ -22,6 +25,9 @@ add-word-at c = search needs
 
 word-at-requires : tie.Need-word-at-requires Inv-loop μ-loop
 word-at-requires c κs = search needs
+
+cast-words : tie.Need-cast-words Inv-loop μ-loop
+cast-words c = search needs
 
 add-words : tie.Need-add-words Inv-loop μ-loop
 add-words c = search needs
@@ -54,9 +60,11 @@ load-words-spec =
     Inv-loop
     μ-loop
     loop-holds
+    cast-word-at
     mul-word-at
     add-word-at
     word-at-requires
+    cast-words
     add-words
     mul-words
     slice-write-words

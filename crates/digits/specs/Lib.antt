@@ -1,0 +1,4 @@
+-- definitions
+pub mod Digits
+-- laws
+pub mod DigitLaws

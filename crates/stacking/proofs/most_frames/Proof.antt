@@ -1,9 +1,0 @@
-use Rattle.stacking.specs.LabelLaws.{most-127}
-use Rattle.stacking.proofs.most_frames.Statement.{statement}
-use Rattle.stacking.proofs.most_frames.Tie as tie
-
-returns : tie.Need-returns
-returns c = most-127
-
-pub most-frames-spec : {M : Type 1} → statement M
-most-frames-spec = tie.close (tie.spec returns)

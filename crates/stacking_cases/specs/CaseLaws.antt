@@ -1,0 +1,48 @@
+-- The stacks of the cases, computed from the emulator's definitions.
+use mathlib.Core.Path.{_≡_, refl}
+use mathlib.Core.List.{List, [], _∷_}
+use Prim.Native.Nat.{ℕ}
+use Rattle.words.specs.Word.{signed, low}
+use Rattle.sums.specs.Sums.{holds, held, settled, carry, noBorrow, added, subtracted}
+use Rattle.products.specs.Products.{product, productWord, scaled, amountOf, shiftedProduct, productHigh, productLow}
+use Rattle.registers.specs.Registers.{wrappedSum, wrappedDifference, reversed, reversedSum}
+use Rattle.machine.specs.Reset.{resetMachine}
+use Rattle.machine.specs.Range.{inRange}
+use Rattle.instructions.specs.Encoding.{lowFits, modificationOf, nextOf, indirectOf, addressOf}
+use Rattle.instructions.specs.Decode.{decodeOf}
+use Rattle.traits.specs.Pages.{traitsOf, multiplierTraits, modesTraits}
+use Rattle.addressing.specs.Addressing.{moved, pointed, modified, addressed}
+use Rattle.addressing.specs.Addressing as addressing
+use Rattle.multiplier.specs.Pages.{APAC, MAC, tableAddress}
+use Rattle.modes.specs.Pages.{RPTK}
+use Rattle.modes.specs.Rule.{modesRule}
+use Rattle.multiplier.specs.Rule.{multiplierRule}
+use Rattle.rules.specs.Rules.{ruleOf}
+use Rattle.passes.specs.Passes.{followed, destination}
+use Rattle.regions.specs.Regions.{dataRegion, dataPresent, inRom, inProgramB0, programPresent}
+use Rattle.slices.specs.Slices.{memoriesFit, portFits, portSpent, slicesFit}
+use Rattle.windows.specs.Windows.{windowOf, programWord}
+use Rattle.refusals.specs.Rows.{firstGiven}
+use Rattle.refusals.specs.Refusals.{accesses, wrongPort, sends, addressAbove, dataAbsent, tableAbsent, outputFull}
+use Rattle.stores.specs.Stores.{writeOf, dataAfter, outputAfter}
+use Rattle.plans.specs.Pass.{readWord, wordsRead, effectOf, passedMachine, passedWrite, performed}
+use Rattle.steps.specs.Table.{checksOf, decodedAt, secondAddress, secondWord, notRepeatable, secondAbsent, tableFor, refusalOf}
+use Rattle.steps.specs.Step.{pagePlan, planOf, stored, stepOf, runOf}
+use Rattle.answers.specs.Numbers.{numberOf}
+use Rattle.steps.specs.World.{RunOutcome}
+use Rattle.stacking_cases.specs.Cases.{romWith, worldWith, runWith}
+
+-- answer, steps, ACC and OV of a run
+abbrev pub shown : RunOutcome → List ℕ
+shown r = numberOf (r .answer) ∷ r .steps ∷ r .world .m .acc ∷ r .world .m .ov ∷ []
+
+-- n = 127 of all -32768, whatever OVM is; n = 128 of them, with holding and without; n = 128 with one word changed
+pub record Computed : Type 0 where
+  pub all-127 : shown (runWith 126 0x8000 1) ≡ 0 ∷ 129 ∷ 0x7F00_0000 ∷ 0 ∷ []
+  pub all-128-held : shown (runWith 127 0x8000 1) ≡ 0 ∷ 130 ∷ 0x7FFF_FFFF ∷ 1 ∷ []
+  pub all-128-turned-over : shown (runWith 127 0x8000 0) ≡ 0 ∷ 130 ∷ 0x8000_0000 ∷ 1 ∷ []
+  pub one-changed-128 : shown (runWith 127 0x8001 1) ≡ 0 ∷ 130 ∷ 0x7FFF_FE00 ∷ 0 ∷ []
+
+pub computed : Computed
+unfolding signed low holds held settled carry noBorrow added subtracted product productWord scaled amountOf shiftedProduct productHigh productLow wrappedSum wrappedDifference reversed reversedSum resetMachine inRange lowFits modificationOf nextOf indirectOf addressOf decodeOf traitsOf multiplierTraits moved pointed modified addressed addressing.addressOf APAC tableAddress multiplierRule ruleOf followed destination dataRegion dataPresent inRom inProgramB0 programPresent memoriesFit portFits portSpent slicesFit windowOf programWord firstGiven accesses wrongPort sends addressAbove dataAbsent tableAbsent outputFull readWord wordsRead effectOf writeOf passedMachine passedWrite performed dataAfter outputAfter decodedAt secondAddress secondWord notRepeatable secondAbsent tableFor refusalOf pagePlan planOf stored stepOf modesTraits MAC RPTK modesRule checksOf runOf romWith worldWith runWith
+computed = record { all-127 = refl; all-128-held = refl; all-128-turned-over = refl; one-changed-128 = refl }

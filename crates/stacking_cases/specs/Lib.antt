@@ -1,0 +1,5 @@
+-- the stacks
+pub mod Cases
+-- laws
+pub mod CaseLaws
+pub mod LabelLaws
