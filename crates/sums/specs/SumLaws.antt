@@ -82,12 +82,11 @@ module _ (m b ov ovm c : ℕ) where
   pub settles : (over under : Bool) → leb (b * 2 ^ 32 + 2 ^ 31) m ≡ over → ltb (m + 2 ^ 31) (b * 2 ^ 32) ≡ under
       → record { acc = heldAs (m % 2 ^ 32) over under ovm; ov = cond (over || under) 1 ov; c = c } ≡ settled (net m b) ov ovm c
   unfolding heldAs
-  settles true under e f = let h = leb-true _ _ e in sym (settles-over (omega arith))
-  settles false true e f = let h = ltb-true _ _ f in sym (settles-under (omega arith))
+  settles true under e f = sym (settles-over (omega (arith, leb-true (b * 2 ^ 32 + 2 ^ 31) m e)))
+  settles false true e f = sym (settles-under (omega (arith, ltb-true (m + 2 ^ 31) (b * 2 ^ 32) f)))
   settles false false e f =
-      let h = leb-false _ _ e in
-      let k = ltb-false _ _ f in
-      ap (λ (x : ℕ). record { acc = x; ov = ov; c = c }) (either-way (eqb ovm 1) (m % 2 ^ 32)) ∙ sym (settles-in (omega arith) (omega arith))
+      ap (λ (x : ℕ). record { acc = x; ov = ov; c = c }) (either-way (eqb ovm 1) (m % 2 ^ 32))
+      ∙ sym (settles-in (omega (arith, ltb-false (m + 2 ^ 31) (b * 2 ^ 32) f)) (omega (arith, leb-false (b * 2 ^ 32 + 2 ^ 31) m e)))
 
 -- A sum and a difference, as such numbers: a word's sign bit, w / 2 ^ 31, is worth 2 ^ 32 less
 pub add-net : (acc x : ℕ) → net (acc + x) (acc / 2 ^ 31 + x / 2 ^ 31) ≡ signed 32 acc +ℤ signed 32 x
