@@ -30,14 +30,43 @@ fn byte_at(bytes: &[u8], at: usize) -> u64 {
 }
 
 // Answer, length and first word of a fetch window.
-fn window_case<'a>(case: &[u8], m: Machine, at: u16, rom: &'a [u16], data: &'a [u16]) {
+fn show_window<'a>(case: &[u8], m: Machine, at: u16, rom: &'a [u16], data: &'a [u16]) {
     let answer = answers::number(windows::window_answer(m, at, rom, data));
     let shown = windows::window(m, at, rom, data);
     line_of(case, answer as u64, shown.len() as u64, word_at(shown, 0));
 }
 
+// The words at both ends of ROM are 11 and 12, of B0 13 and 14; `short` lends ROM without its last word.
+fn window_case(case: &[u8], cnf: u8, arp: u8, at: u16, short: bool) {
+    let mut rom = [0; 4096];
+    let mut data = [0; 4096];
+    rom[0] = 11;
+    rom[4095] = 12;
+    data[0x200] = 13;
+    data[0x2FF] = 14;
+    let mut m = Machine::reset();
+    m.cnf = cnf;
+    m.arp = arp;
+    if short {
+        return show_window(case, m, at, &rom[..4095], &data);
+    }
+    show_window(case, m, at, &rom, &data);
+}
+
+fn window_cases() {
+    window_case(b"R32 window at 0000h", 0, 0, 0, false);
+    window_case(b"R32 window at 0FFFh", 0, 0, 0xFFF, false);
+    window_case(b"window at 1000h", 0, 0, 0x1000, false);
+    window_case(b"window at FF00h, CNF 0", 0, 0, 0xFF00, false);
+    window_case(b"window at FF00h, CNF 1", 1, 0, 0xFF00, false);
+    window_case(b"window at FFFFh, CNF 1", 1, 0, 0xFFFF, false);
+    window_case(b"R32 window, ARP 8", 0, 8, 0, false);
+    window_case(b"R32 window, 4,095 words of ROM", 0, 0, 0, true);
+    window_case(b"window, ARP 8 and 4,095 words", 0, 8, 0, true);
+}
+
 // Answer, count and last of the words sent.
-fn sent_case(case: &[u8], m: Machine, output: &[u16]) {
+fn show_sent(case: &[u8], m: Machine, output: &[u16]) {
     let answer = answers::number(windows::words_sent_answer(m, output));
     let sent = windows::words_sent(m, output);
     let count = sent.len();
@@ -47,50 +76,21 @@ fn sent_case(case: &[u8], m: Machine, output: &[u16]) {
     line_of(case, answer as u64, count as u64, word_at(sent, count - 1));
 }
 
-fn windows_cases() {
-    let mut rom = [0; 4096];
-    let mut data = [0; 4096];
-    rom[0] = 11;
-    rom[4095] = 12;
-    data[0x200] = 13;
-    data[0x2FF] = 14;
-    let m = Machine::reset();
-    let mut with_b0 = m;
-    with_b0.cnf = 1;
-    let mut wrong = m;
-    wrong.arp = 8;
-    window_case(b"R32 window at 0000h", m, 0, &rom, &data);
-    window_case(b"R32 window at 0FFFh", m, 0xFFF, &rom, &data);
-    window_case(b"window at 1000h", m, 0x1000, &rom, &data);
-    window_case(b"window at FF00h, CNF 0", m, 0xFF00, &rom, &data);
-    window_case(b"window at FF00h, CNF 1", with_b0, 0xFF00, &rom, &data);
-    window_case(b"window at FFFFh, CNF 1", with_b0, 0xFFFF, &rom, &data);
-    window_case(b"R32 window, ARP 8", wrong, 0, &rom, &data);
-    window_case(b"R32 window, 4,095 words of ROM", m, 0, &rom[..4095], &data);
-    window_case(
-        b"window, ARP 8 and 4,095 words",
-        wrong,
-        0,
-        &rom[..4095],
-        &data,
-    );
+fn sent_case(case: &[u8], output_cursor: u16, input_cursor: u16) {
+    let words: [u16; 4] = [21, 22, 23, 24];
+    let mut m = Machine::reset();
+    m.output_cursor = output_cursor;
+    m.input_cursor = input_cursor;
+    show_sent(case, m, &words);
 }
 
 fn sent_cases() {
-    let words: [u16; 4] = [21, 22, 23, 24];
-    let mut m = Machine::reset();
-    sent_case(b"R32 sent, cursor 0", m, &words);
-    m.output_cursor = 3;
-    sent_case(b"R32 sent, cursor 3 handed in", m, &words);
-    m.output_cursor = 4;
-    sent_case(b"R14 sent, cursor at the end", m, &words);
-    m.output_cursor = 5;
-    sent_case(b"R32 sent, cursor past the slice", m, &words);
-    m.output_cursor = 1025;
-    sent_case(b"R14 sent, cursor 1,025", m, &words);
-    m.output_cursor = 3;
-    m.input_cursor = 900;
-    sent_case(b"R32 sent, the input is not looked at", m, &words);
+    sent_case(b"R32 sent, cursor 0", 0, 0);
+    sent_case(b"R32 sent, cursor 3 handed in", 3, 0);
+    sent_case(b"R14 sent, cursor at the end", 4, 0);
+    sent_case(b"R32 sent, cursor past the slice", 5, 0);
+    sent_case(b"R14 sent, cursor 1,025", 1025, 0);
+    sent_case(b"R32 sent, the input is not looked at", 3, 900);
 }
 
 // A run file of two program words, one data word, one input word and budget 7.
@@ -101,36 +101,42 @@ fn put_file(bytes: &mut [u8]) -> u64 {
     answers::number(writing::write_file(&program, &data, &input, 7, bytes)) as u64
 }
 
-fn written_cases() {
-    let mut exact = [255; 24];
-    let answer = put_file(&mut exact);
+fn exact_write() {
+    let mut bytes = [255; 24];
+    let answer = put_file(&mut bytes);
     line_of(
         b"R34 write, the exact length",
         answer,
-        byte_at(&exact, 0),
-        byte_at(&exact, 23),
+        byte_at(&bytes, 0),
+        byte_at(&bytes, 23),
     );
-    let mut short = [255; 23];
-    let answer = put_file(&mut short);
+}
+
+fn short_write() {
+    let mut bytes = [255; 23];
+    let answer = put_file(&mut bytes);
     line_of(
         b"R34 write, a byte short",
         answer,
-        byte_at(&short, 0),
-        byte_at(&short, 22),
+        byte_at(&bytes, 0),
+        byte_at(&bytes, 22),
     );
-    let mut long = [255; 25];
-    let answer = put_file(&mut long);
+}
+
+fn long_write() {
+    let mut bytes = [255; 25];
+    let answer = put_file(&mut bytes);
     line_of(
         b"R34 write, a byte more",
         answer,
-        byte_at(&long, 22),
-        byte_at(&long, 24),
+        byte_at(&bytes, 22),
+        byte_at(&bytes, 24),
     );
     line_of(
         b"R34 write, the budget",
         answer,
-        byte_at(&long, 14),
-        byte_at(&long, 15),
+        byte_at(&bytes, 14),
+        byte_at(&bytes, 15),
     );
 }
 
@@ -196,9 +202,11 @@ fn refused_set_up_cases() {
 }
 
 fn main() {
-    windows_cases();
+    window_cases();
     sent_cases();
-    written_cases();
+    exact_write();
+    short_write();
+    long_write();
     set_up_cases();
     refused_set_up_cases();
 }
