@@ -48,12 +48,14 @@ def case(line):
     name, page, program, cells = [part.strip() for part in line.split('|')]
     before, after = [pairs(part) for part in cells.split('->')]
     words = program.split()
-    steps = int(words.pop()[1:], 16) if words and words[-1][0] == 'x' else 1
+    steps = int(words.pop()[1:], 16) if words and words[-1][0] == 'x' else None
+    if steps is None and any(place[0] == 'STEPS' for place, _ in after):
+        raise SystemExit('only a run counts its steps: ' + line)
     start = dict((place[0], value) for place, value in before).get('PC', 0)
     asked = [act('N', label=name)]
     asked += [act('S', 0x1000 + start + at, int(word, 16)) for at, word in enumerate(words)]
     asked += [act('S', place[1], value) for place, value in before]
-    asked += [act('R', value=steps)]
+    asked += [act('T') if steps is None else act('R', value=steps)]
     if not any(place[0] == 'ANS' for place, _ in after):
         after.insert(0, (places('ANS')[0], 0))
     printed = '%-15s' % name

@@ -1,11 +1,12 @@
 // Runs the cases of cases.txt through the library for C and prints the cells and words that each case names. make.py turns that text into
 // the lines read here, one act a line of 32 bytes, and into the file that the output is compared with.
 //
-// A line is `KIND PLACE VALUE LABEL`: N begins a case and prints its label, S puts the value into the place, R runs with the value as its
-// budget, P prints its label and the place in hexadecimal, E ends the case.
+// A line is `KIND PLACE VALUE LABEL`: N begins a case and prints its label, S puts the value into the place, T does one step, R runs with
+// the value as its budget, P prints its label and the place in hexadecimal, E ends the case.
 ghost use Prim.Native.Nat.{_<_};
 use desktop::running::crowmitten_reset;
 use desktop::running::crowmitten_run;
+use desktop::running::crowmitten_step;
 
 const STDIN: i32 = 0;
 
@@ -18,7 +19,7 @@ struct Line {
     value: u32,
 }
 
-// How a run ended.
+// How a step or a run ended; only a run counts its steps.
 struct Run {
     answer: u32,
     steps: u32,
@@ -98,7 +99,7 @@ fn store(
     }
 }
 
-// What stands in a place; behind the cells, the last run's answer and steps.
+// What stands in a place; behind the cells, the last answer and the last run's steps.
 fn place_of(
     place: u32,
     last: Run,
@@ -118,6 +119,17 @@ fn place_of(
     }
 }
 
+fn step_cells(
+    data: &mut [u16; 4096],
+    rom: &[u16; 4096],
+    input: &[u16; 4],
+    output: &mut [u16; 4],
+    cells: &mut [u32; 34],
+) -> Run {
+    let answer = crowmitten_step(cells, rom, data, input, output);
+    Run { answer, steps: 0 }
+}
+
 fn run_cells(
     budget: u16,
     data: &mut [u16; 4096],
@@ -131,7 +143,7 @@ fn run_cells(
     Run { answer, steps }
 }
 
-// What a line asks for; the last run.
+// What a line asks for; how the last step or run ended.
 fn act(
     a: Line,
     last: Run,
@@ -141,6 +153,9 @@ fn act(
     output: &mut [u16; 4],
     cells: &mut [u32; 34],
 ) -> Run {
+    if a.kind == b'T' {
+        return step_cells(data, rom, input, output, cells);
+    }
     if a.kind == b'R' {
         return run_cells(word_of(a.value), data, rom, input, output, cells);
     }
