@@ -34,7 +34,7 @@ ADDS w m = withSum m (added (m .acc) (unsignedOperand w) (m .ov) (m .ovm))
 unfoldable pub SUBH : ℕ → Machine → Machine
 SUBH w m = withSum m (subtractedHigh (m .acc) w (m .ov) (m .ovm) (m .c))
 
--- "(ACC) - (dma) -> ACC; (dma) is a 16-bit unsigned number"
+-- "(ACC) - (dma) -> ACC"; the word "is treated as a 16-bit unsigned number"
 unfoldable pub SUBS : ℕ → Machine → Machine
 SUBS w m = withSum m (subtracted (m .acc) (unsignedOperand w) (m .ov) (m .ovm))
 
@@ -46,7 +46,7 @@ SUBC w m = withSum m (subtractedConditionally (m .acc) (operand w 15 (m .sxm)) (
 unfoldable pub ZALH : ℕ → Machine → Machine
 ZALH w m = withAcc m (inHighHalf w)
 
--- "(dma) -> ACC(15-0), 0 -> ACC(31-16)"
+-- "0 -> ACC(31-16), (dma) -> ACC(15-0)"
 unfoldable pub ZALS : ℕ → Machine → Machine
 ZALS w m = withAcc m (unsignedOperand w)
 

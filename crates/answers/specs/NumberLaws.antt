@@ -1,6 +1,6 @@
 -- A promise about numbers is a promise about answers: no two answers share a number.
 use mathlib.Core.Path.{_≡_, refl, sym, ap, _∙_}
-use mathlib.Core.Bool.{true, cond}
+use mathlib.Core.Bool.{Bool, true, cond}
 use mathlib.Core.List.{List, [], _∷_}
 use Prim.Native.Nat.{ℕ}
 use lib.Dec.{eqb}
@@ -64,3 +64,7 @@ zero-done a h = eq-eqb _ _ h
 
 pub done-is : (a : Answer) → isDone a ≡ true → a ≡ Done
 done-is a h = number-injective a Done (done-zero a h)
+
+-- what an answer's flag tells of the answer
+pub told : {flag t : Bool} {found a : Answer} → found ≡ a → flag ≡ isDone found → flag ≡ t → isDone a ≡ t
+told e f g = rw (← e, ← f) g

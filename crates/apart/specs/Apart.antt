@@ -11,12 +11,7 @@ use Rattle.instructions.specs.Encoding.{Row, pick, both, fits, lowFits, has}
 use Rattle.instructions.specs.Pages.{pages}
 use Rattle.instructions.specs.Decode.{decodeOf}
 use Rattle.instructions.specs.Places.{placeIn, meaningIn, upperIn, pagesOf, first-place}
-
--- the page at a place has the word
-abbrev pub hasAt : List Row → ℕ → ℕ → Bool
-hasAt [] p w = false
-hasAt (r ∷ rs) zero w = has r w
-hasAt (r ∷ rs) (suc p) w = hasAt rs p w
+use Rattle.apart.specs.Having.{hasAt}
 
 -- Test: of the pages es, those with the low byte stand at 130 or past it, with ZAC, NOP and LARP.
 onlyShared : List (ℕ × String) → ℕ → Bool

@@ -1,4 +1,5 @@
 -- definitions
+pub mod Having
 pub mod Shared
 -- proofs
 pub mod Apart

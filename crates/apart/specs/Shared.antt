@@ -10,7 +10,7 @@ use Rattle.instructions.specs.declared.Auxiliary.the-variants.{Mar}
 use Rattle.instructions.specs.declared.Address.the-variants.{Direct, Indirect}
 use Rattle.instructions.specs.declared.Modification.the-variants.{None}
 use Rattle.instructions.specs.declared.NextArp.the-variants.{To}
-use Rattle.apart.specs.Apart.{hasAt}
+use Rattle.apart.specs.Having.{hasAt}
 
 -- Places 130, 131 and 132 of the list are ZAC, NOP and LARP.
 abbrev pub ZacIsLack : Type 0

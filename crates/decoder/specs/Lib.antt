@@ -1,4 +1,5 @@
 -- definitions
 pub mod ByTable
 -- proofs
+pub mod TableLaws
 pub mod Ranges

@@ -22,7 +22,8 @@ use Rattle.steps.specs.Table.{checksOf}
 use Rattle.steps.specs.Step.{planOf, stored, stepOf, runOf, oneMore}
 use Rattle.steps.specs.Stages.{fetchPlan, stages}
 use Rattle.kinds.specs.Table.{kindTable}
-use Rattle.fetching.specs.ByTable.{fetchPlanBy, fetch-by-kinds}
+use Rattle.fetching.specs.ByTable.{fetchPlanBy}
+use Rattle.fetching.specs.TableLaws.{fetch-by-kinds}
 use Rattle.steps.specs.StepLaws.{step-fits, Running, running-begins, running-goes, running-stops, running-ends}
 use Rattle.ranges.specs.Ranges.{WordsFit, WordSized, WorldInRange}
 use Rattle.ranges.specs.Operands.{program-word-lt}

@@ -14,7 +14,8 @@ use Rattle.instructions.specs.Encoding.{Row, row, pick, both, fits, has, means,
 use Rattle.instructions.specs.Pages.{basePages, otherPages, pages}
 use Rattle.instructions.specs.Decode.{decodeOf}
 use Rattle.instructions.specs.Places.{placeIn, meaningIn, meaningAt, decode-at-place}
-use Rattle.apart.specs.Apart.{hasAt, own-meaning}
+use Rattle.apart.specs.Apart.{own-meaning}
+use Rattle.apart.specs.Having.{hasAt}
 use Rattle.meanings.specs.Past.{past-base, past-pages}
 use Rattle.instructions.specs.declared.Instruction.{Instruction}
 use Rattle.instructions.specs.declared.Decoded.{Decoded}

@@ -1,1 +1,4 @@
+-- definitions
 pub mod ByTable
+-- proofs
+pub mod TableLaws

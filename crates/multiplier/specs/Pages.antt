@@ -80,6 +80,6 @@ SPL m = productLow (m .p) (m .pm)
 unfoldable pub SPH : Machine → ℕ
 SPH m = productHigh (m .p) (m .pm)
 
--- "constant -> PM"
+-- "Constant -> product register shift mode (PM) status bits"
 unfoldable pub SPM : ℕ → Machine → Machine
 SPM k m = withPm m k

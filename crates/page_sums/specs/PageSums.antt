@@ -7,16 +7,16 @@ use Rattle.words.specs.Word.{signed, low}
 use Rattle.sums.specs.Sums.{holds, settled, carry, noBorrow}
 use Rattle.sums.specs.declared.Sum.{Sum}
 
--- the word as ADDH, SUBH and ZALH take it: in bits 31 to 16, whatever SXM is (ruling R17)
+-- the word in bits 31 to 16, as ZALH loads it and as ADDH and SUBH take it, whatever SXM is (ruling R17)
 unfoldable pub inHighHalf : ℕ → ℕ
 inHighHalf w = w * 2 ^ 16
 
--- ADDH: "C is set if the result generates a carry; otherwise, C is unaffected"
+-- ADDH: C "is set if the result of the addition generates a carry; otherwise, C is unaffected"
 unfoldable pub addedHigh : ℕ → ℕ → ℕ → ℕ → ℕ → Sum
 addedHigh acc w ov ovm c =
     settled (signed 32 acc +ℤ signed 32 (inHighHalf w)) ov ovm (cond (eqb (carry acc (inHighHalf w)) 1) 1 c)
 
--- SUBH: "C is reset if the result generates a borrow; otherwise, C is unaffected"
+-- SUBH: C "is reset if the result of the subtraction generates a borrow; otherwise, C is unaffected"
 unfoldable pub subtractedHigh : ℕ → ℕ → ℕ → ℕ → ℕ → Sum
 subtractedHigh acc w ov ovm c =
     settled (signed 32 acc -ℤ signed 32 (inHighHalf w)) ov ovm (cond (eqb (noBorrow acc (inHighHalf w)) 0) 0 c)

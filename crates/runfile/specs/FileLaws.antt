@@ -104,10 +104,6 @@ module _ (bytes : List ℕ) where
   unfolding headOf
   head-refused h = rw (read-refused h)
 
--- what an answer's flag tells of the answer
-pub told : {flag t : Bool} {found a : Answer} → found ≡ a → flag ≡ isDone found → flag ≡ t → isDone a ≡ t
-told e f g = rw (← e, ← f) g
-
 -- how long the file of some contents is
 pub file-length : (c : Contents) → length (fileOf c) ≡ fileLength (length (c .program)) (length (c .data-words)) (length (c .input))
 unfolding fileOf fileLength headWords

@@ -1,4 +1,4 @@
-use Rattle.decoder.specs.ByTable.{decode-by-kinds}
+use Rattle.decoder.specs.TableLaws.{decode-by-kinds}
 use borrow.Author.Needs.{needs}
 use Rattle.decoder.proofs.decode.Statement.{statement}
 use Rattle.decoder.proofs.decode.Tie as tie

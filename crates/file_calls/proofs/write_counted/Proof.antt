@@ -1,5 +1,5 @@
 use Rattle.file_calls.specs.CallLaws.{none-written, counts-written, bytes-written}
-use Rattle.runfile.specs.FileLaws.{told}
+use Rattle.answers.specs.NumberLaws.{told}
 use borrow.Author.Tests.{not-true, not-false}
 use mathlib.Core.Path.{ap, _∙_}
 use Rattle.answers.specs.Numbers.{numberOf}

@@ -1,4 +1,4 @@
-use Rattle.runfile.specs.FileLaws.{told}
+use Rattle.answers.specs.NumberLaws.{told}
 use mathlib.Core.Path.{ap, _∙_}
 use Rattle.set_up_answers.specs.SetUpAnswer.{setUpAnswer, lentFit}
 use Rattle.runfile.specs.Files.{headOf}

@@ -1,4 +1,4 @@
-use Rattle.runfile.specs.FileLaws.{told}
+use Rattle.answers.specs.NumberLaws.{told}
 use Rattle.setting_up.specs.SetUpLaws.{set-up-done, set-up-kept, set-up-stored}
 use mathlib.Core.Path.{refl}
 use Rattle.setting_up.specs.SetUp.{lent}

@@ -1,4 +1,5 @@
-use Rattle.runfile.specs.FileLaws.{told, head-read, head-refused}
+use Rattle.runfile.specs.FileLaws.{head-read, head-refused}
+use Rattle.answers.specs.NumberLaws.{told}
 use mathlib.Core.Path.{sym}
 use borrow.Author.Needs.{needs}
 use Rattle.runfile.proofs.reading.head_of.Statement.{statement}

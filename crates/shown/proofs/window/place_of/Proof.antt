@@ -1,5 +1,5 @@
 use Rattle.shown.specs.CallLaws.{no-place, past-rom, rom-place, data-place}
-use Rattle.runfile.specs.FileLaws.{told}
+use Rattle.answers.specs.NumberLaws.{told}
 use borrow.Author.Tests.{not-true, not-false}
 use mathlib.Core.Path.{sym, _∙_}
 use borrow.Author.Needs.{needs}

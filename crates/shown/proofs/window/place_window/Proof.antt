@@ -1,5 +1,5 @@
 use Rattle.shown.specs.CallLaws.{window-refused, window-made}
-use Rattle.runfile.specs.FileLaws.{told}
+use Rattle.answers.specs.NumberLaws.{told}
 use borrow.Author.Tests.{not-true, not-false}
 use borrow.Author.Needs.{needs}
 use Rattle.shown.proofs.window.place_window.Statement.{statement}

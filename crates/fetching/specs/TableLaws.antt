@@ -1,0 +1,16 @@
+-- By the table of the kinds the plan is the step's.
+use mathlib.Core.Path.{_≡_, refl}
+use mathlib.Core.List.{List}
+use Prim.Native.Nat.{ℕ, _<_}
+use Rattle.machine.specs.declared.Machine.{Machine}
+use Rattle.kinds.specs.Table.{kindTable}
+use Rattle.decoder.specs.TableLaws.{decode-by-kinds}
+use Rattle.windows.specs.Windows.{programWord}
+use Rattle.steps.specs.Table.{decodedAt}
+use Rattle.steps.specs.Stages.{fetchPlan}
+use Rattle.fetching.specs.ByTable.{fetchPlanBy}
+
+pub fetch-by-kinds : (rom «data» input : List ℕ) (outputLength : ℕ) (m : Machine) → programWord (m .cnf) (m .pc) rom «data» < 65536
+    → fetchPlanBy kindTable rom «data» input outputLength m ≡ fetchPlan rom «data» input outputLength m
+unfolding fetchPlanBy fetchPlan decodedAt
+fetch-by-kinds rom «data» input outputLength m h = rw (decode-by-kinds (programWord (m .cnf) (m .pc) rom «data») h) refl
