@@ -71,8 +71,9 @@ enum {
 };
 
 /*
- * Where a call takes cells: 2 if cells_length is not 34, then 1 if a number is
- * outside its cell's range, then what stands beside the function.
+ * Where a call takes cells: 2 if cells_length is not 34, then, but for reset,
+ * 1 if a number is outside its cell's range, then what stands beside the
+ * function.
  */
 
 /* The cells after reset, whatever they held: 0, or 2. */

@@ -12,7 +12,7 @@ SOVM m = withOvm m 1
 unfoldable pub ROVM : Machine → Machine
 ROVM m = withOvm m 0
 
--- "1 -> sign-extension mode (SXM) status bit", and "0"
+-- "1 -> SXM status bit", and "0 -> SXM"
 unfoldable pub SSXM : Machine → Machine
 SSXM m = withSxm m 1
 

@@ -36,7 +36,7 @@ use Rattle.stacking_cases.specs.Cases.{romWith, worldWith, runWith}
 abbrev pub shown : RunOutcome → List ℕ
 shown r = numberOf (r .answer) ∷ r .steps ∷ r .world .m .acc ∷ r .world .m .ov ∷ []
 
--- n = 127 of all -32768, whatever OVM is; n = 128 of them, with holding and without; n = 128 with one word changed
+-- n = 127 of all -32768, with holding; n = 128 of them, with holding and without; n = 128 with one word changed
 pub record Computed : Type 0 where
   pub all-127 : shown (runWith 126 0x8000 1) ≡ 0 ∷ 129 ∷ 0x7F00_0000 ∷ 0 ∷ []
   pub all-128-held : shown (runWith 127 0x8000 1) ≡ 0 ∷ 130 ∷ 0x7FFF_FFFF ∷ 1 ∷ []

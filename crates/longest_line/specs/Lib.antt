@@ -1,0 +1,6 @@
+-- definitions
+pub mod Longest
+-- proofs
+pub mod Digits
+pub mod Start
+pub mod LongestLaws

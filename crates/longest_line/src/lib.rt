@@ -1,0 +1,1 @@
+// How long a line `replay` can print, in specs/ alone: no function is needed here.
