@@ -1,7 +1,6 @@
 -- All cases at once, computed from the emulator's definitions.
 use mathlib.Core.Path.{_≡_, refl}
-use mathlib.Core.List.{List, [], _∷_}
-use Prim.Native.Nat.{ℕ}
+use mathlib.Core.List.{[]}
 use Rattle.words.specs.Word.{signed, low}
 use Rattle.sums.specs.Sums.{holds, held, settled, carry, noBorrow, added, subtracted}
 use Rattle.products.specs.Products.{product, productWord, scaled, amountOf, shiftedProduct, productHigh, productLow}

@@ -7,7 +7,7 @@ use Rattle.machine.specs.declared.Machine.{Machine}
 use Rattle.machine.specs.Cells.{withAcc, withP, withT, withPc, withPm, withOv, withOvm, withC, withArp, register, withRegister}
 use Rattle.machine.specs.Reset.{resetMachine}
 use Rattle.answers.specs.Numbers.{numberOf}
-use Rattle.steps.specs.World.{World, Outcome}
+use Rattle.steps.specs.World.{Outcome}
 use Rattle.steps.specs.Step.{stepOf}
 
 pub record Case : Type 0 where

@@ -3,7 +3,6 @@ use mathlib.Core.Path.{_≡_, refl, sym, _∙_, ap}
 use mathlib.Core.Bool.{Bool, true, false, not, cond, false≢true}
 use mathlib.Core.List.{List, [], _∷_}
 use Prim.Native.Nat.{ℕ, zero, suc, _+_, _-_, _^_, _≤_, _<_}
-use native.Mathlib.Omega.{arith}
 use lib.ListN.{length, getD}
 use Rattle.machine.specs.declared.Machine.{Machine}
 use Rattle.machine.specs.Range.{inRange}
@@ -24,7 +23,7 @@ use Rattle.steps.specs.Stages.{fetchPlan, stages}
 use Rattle.kinds.specs.Table.{kindTable}
 use Rattle.fetching.specs.ByTable.{fetchPlanBy}
 use Rattle.fetching.specs.TableLaws.{fetch-by-kinds}
-use Rattle.steps.specs.StepLaws.{step-fits, Running, running-begins, running-goes, running-stops, running-ends}
+use Rattle.steps.specs.StepLaws.{step-fits, Running, running-begins, running-goes, running-ends}
 use Rattle.ranges.specs.Ranges.{WordsFit, WordSized, WorldInRange}
 use Rattle.ranges.specs.Operands.{program-word-lt}
 use Rattle.ranges.specs.Steps.{step-in-range}

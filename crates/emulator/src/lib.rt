@@ -11,7 +11,6 @@ ghost use Rattle.answers.specs.declared.Answer.the-variants.{Done};
 ghost use Rattle.kinds.specs.Table.{kindTable};
 ghost use Rattle.stores.specs.Stores.{dataAfter, outputAfter};
 ghost use Rattle.plans.specs.StoreLaws.{WriteFits};
-ghost use Rattle.steps.specs.World.{World};
 ghost use Rattle.steps.specs.Table.{checksOf};
 ghost use Rattle.steps.specs.Step.{stepOf, runOf};
 ghost use Rattle.emulator.specs.Outcomes.{stepped, ran};

@@ -10,7 +10,7 @@ use borrow.Author.Tests.{le-leb, lt-leb}
 use Rattle.runfile.specs.WordLaws.{sets-append, sets-front}
 use Rattle.digits.specs.Digits.{digitOf, hexadecimal, decimal}
 use Rattle.digits.specs.DigitLaws.{small-digit, hexadecimal-length, decimal-one, decimal-more}
-use Rattle.fields.specs.Placing.{space, newline, lineIn, lengthIn}
+use Rattle.fields.specs.Placing.{space, lineIn, lengthIn}
 use Rattle.fields.specs.Facts.{Put, Room, wordFields, cellFields, linePut, WordsPut}
 
 -- ---- text put down

@@ -1,6 +1,6 @@
 // A line's fields, each with its space in front.
 ghost use mathlib.Core.Path.{_≡_};
-ghost use mathlib.Core.List.{_∷_, _++_};
+ghost use mathlib.Core.List.{_∷_};
 ghost use Rattle.digits.specs.Digits.{hexadecimal, decimal};
 ghost use Rattle.fields.specs.Placing.{space};
 ghost use Rattle.fields.specs.Facts.{Put, Room, wordFields, cellFields};

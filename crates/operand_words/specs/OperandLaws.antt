@@ -1,5 +1,5 @@
 -- Bounds of an operand's bits.
-use Prim.Native.Nat.{ℕ, _<_, _%_, _+_}
+use Prim.Native.Nat.{_<_}
 use native.Mathlib.Omega.{arith}
 use lib.Dec.{ltb→lt}
 use Rattle.instructions.specs.declared.Modification.{Modification}

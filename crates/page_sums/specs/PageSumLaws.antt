@@ -12,7 +12,6 @@ use Rattle.words.specs.WordLaws.{signed-is, low-is}
 use Rattle.sums.specs.Sums.{holds, settled, carry, noBorrow, added, subtracted}
 use Rattle.sums.specs.SumLaws.{holds-in}
 use Rattle.page_sums.specs.PageSums.{inHighHalf, addedHigh, subtractedHigh, aluOutput, subtractedConditionally, negated, absolute}
-use Rattle.sums.specs.declared.Sum.{Sum}
 
 module _ (acc w ov ovm c : ℕ) where
   pub add-high-sets : added acc (inHighHalf w) ov ovm .c ≡ 1 → added acc (inHighHalf w) ov ovm ≡ addedHigh acc w ov ovm c

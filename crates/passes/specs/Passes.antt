@@ -6,7 +6,6 @@ use Rattle.registers.specs.Registers.{wrappedSum}
 use Rattle.machine.specs.declared.Machine.{Machine}
 use Rattle.sums.specs.declared.Sum.{Sum}
 use Rattle.machine.specs.Cells.{withAcc, withOv, withC, withPc, withMid, withRptc}
-use Rattle.passes.specs.declared.Store.{Store}
 use Rattle.passes.specs.declared.Store.the-variants.{Nothing, Word, Move, Sent}
 use Rattle.passes.specs.declared.Jump.{Jump}
 use Rattle.passes.specs.declared.Jump.the-variants.{Past, To}

@@ -1,7 +1,7 @@
 -- A page that stores a word at its operand's address is one that writes, so that what a step stores lies on the board.
-use mathlib.Core.Path.{_≡_, refl, sym, _∙_, ap, subst}
+use mathlib.Core.Path.{_≡_, refl, sym, subst}
 use mathlib.Core.Bool.{Bool, true, false, not, cond, _&&_}
-use mathlib.Core.List.{List, [], _∷_}
+use mathlib.Core.List.{List, []}
 use Prim.Native.Nat.{ℕ, _+_, _<_}
 use native.Mathlib.Omega.{arith}
 use lib.ListN.{length}
@@ -30,7 +30,6 @@ use Rattle.transfers.specs.Pages.{DMOV, IN, OUT}
 use Rattle.transfers.specs.Rule.{transfersRule}
 use Rattle.passes.specs.declared.Store.{Store}
 use Rattle.passes.specs.declared.Store.the-variants as Left
-use Rattle.passes.specs.declared.Effect.{Effect}
 use Rattle.traits.specs.declared.Access.{Access}
 use Rattle.traits.specs.declared.Traits.{Traits}
 use Rattle.traits.specs.Pages.{accumulatorTraits, multiplierTraits, auxiliaryTraits, branchesTraits, transfersTraits, modesTraits, traitsOf}

@@ -1,5 +1,5 @@
 -- The product and the product shift, in parts that omega reads.
-use mathlib.Core.Path.{_≡_, refl, sym, _∙_, ap, ap₂}
+use mathlib.Core.Path.{_≡_, refl, sym, ap, ap₂}
 use Prim.Native.Nat.{ℕ, zero, suc, _+_, _*_, _-_, _/_, _%_, _^_, _≤_, _<_}
 use native.Mathlib.Omega.{arith}
 use native.Mathlib.Nat.{mul-le-mul}
@@ -7,7 +7,7 @@ use lib.IntN.{ℤ, pos, negsuc, _*ℤ_}
 use lib.Signed.{shrZ}
 use Rattle.words.specs.Whole.{up, dn, part, neg-is, times-is}
 use Rattle.words.specs.Word.{signed, low}
-use Rattle.words.specs.WordLaws.{signed-is, low-is, low-lt, extended-is}
+use Rattle.words.specs.WordLaws.{signed-is, low-is, extended-is}
 use Rattle.products.specs.Products.{product, productWord, longConstant, scaled, amountOf}
 
 -- a product, by its factors' parts: one of the two products of parts on each side is zero

@@ -1,7 +1,7 @@
 -- Addresses that no board has.
 use mathlib.Core.Path.{_≡_, refl}
 use mathlib.Core.Bool.{Bool, true, false}
-use Prim.Native.Nat.{ℕ, _<_, _≤_}
+use Prim.Native.Nat.{ℕ, _≤_}
 use native.Mathlib.Omega.{arith}
 use Rattle.regions.specs.Regions.{dataPresent, moveAllowed}
 use Rattle.regions.specs.RegionLaws.{present-below, moves}

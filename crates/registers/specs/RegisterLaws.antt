@@ -1,10 +1,10 @@
 -- Reversed bits, and what the loop of `reverse` keeps.
-use mathlib.Core.Path.{_≡_, refl, sym, _∙_, ap}
+use mathlib.Core.Path.{_≡_, refl, ap}
 use Prim.Native.Nat.{ℕ, zero, suc, _+_, _*_, _-_, _/_, _%_, _^_, _≤_, _<_}
 use native.Mathlib.Omega.{arith}
 use native.Mathlib.Nat.{mul-le-mul-right, mul-le-mul-left, pow-suc}
 use lib.Pow.{pow-pos}
-use Rattle.registers.specs.Registers.{wrappedSum, wrappedDifference, reversed}
+use Rattle.registers.specs.Registers.{wrappedDifference, reversed}
 
 pub difference-is : (a b r : ℕ) → a < 2 ^ 16 → b < 2 ^ 16 → r < 2 ^ 16 → (r + b) % 2 ^ 16 ≡ a → r ≡ wrappedDifference a b
 unfolding wrappedDifference

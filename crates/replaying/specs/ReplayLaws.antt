@@ -1,6 +1,6 @@
 -- Laws of what `replay` prints: what is set up and run gives the definition's line, and a longer file can be cut.
 use mathlib.Core.Path.{_≡_, refl, sym, ap, _∙_}
-use mathlib.Core.Bool.{Bool, true, false, cond, false≢true}
+use mathlib.Core.Bool.{Bool, true, false, cond}
 use mathlib.Core.List.{List}
 use Prim.Native.Nat.{ℕ, _+_, _≤_, _<_}
 use native.Mathlib.Omega.{arith}
@@ -14,11 +14,10 @@ use Rattle.answers.specs.declared.Answer.the-variants.{Done, FileShort, FileRul
 use Rattle.answers.specs.Numbers.{isDone}
 use Rattle.slices.specs.Slices.{memoriesFit}
 use Rattle.runfile.specs.declared.reading.Head.{Head}
-use Rattle.runfile.specs.Files.{Contents, wordAt, numbersOf, rulesKept, readAnswer, readContents, headOf}
+use Rattle.runfile.specs.Files.{Contents, numbersOf, rulesKept, readAnswer, readContents, headOf}
 use Rattle.setting_up.specs.SetUp.{lent, lentFit, setUpAnswer, loaded, setUp}
 use Rattle.runfile.specs.FileLaws.{accepted, head-read, rules-facts}
 use Rattle.emulator.specs.declared.Ran.{Ran}
-use Rattle.steps.specs.World.{World, RunOutcome}
 use Rattle.emulator.specs.Outcomes.{ran}
 use Rattle.steps.specs.Step.{runOf}
 use Rattle.fields.specs.Placing.{lineIn, lengthIn}

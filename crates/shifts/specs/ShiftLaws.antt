@@ -1,7 +1,6 @@
 -- Shifts to the left by any number of places, and SFR by the sign.
-use mathlib.Core.Path.{_≡_, refl, sym, _∙_, ap}
-use mathlib.Core.Bool.{cond}
-use Prim.Native.Nat.{ℕ, zero, suc, _+_, _*_, _-_, _/_, _%_, _^_, _≤_, _<_}
+use mathlib.Core.Path.{_≡_, sym, _∙_, ap}
+use Prim.Native.Nat.{ℕ, suc, _+_, _*_, _-_, _/_, _%_, _^_, _≤_, _<_}
 use native.Mathlib.Omega.{arith}
 use native.Mathlib.Nat.{mul-mod-left, mul-assoc}
 use lib.IntN.{ℤ, pos, negsuc, _*ℤ_}
@@ -11,8 +10,7 @@ use borrow.Author.Tests.{eq-eqb, ne-eqb}
 use Rattle.words.specs.Whole.{up, dn, times-is}
 use Rattle.words.specs.Word.{signed, low}
 use Rattle.words.specs.WordLaws.{signed-is, low-is, extended-is}
-use Rattle.shifts.specs.Shifts.{extended, operand, storedLow, storedHigh, leftByOne, rightByOne}
-use Rattle.shifts.specs.declared.Shifted.{Shifted}
+use Rattle.shifts.specs.Shifts.{extended, operand, storedLow, leftByOne, rightByOne}
 
 -- nothing is left of 32 bits that go 32 places or more
 pub all-lost : (x s : ℕ) → 32 ≤ s → x * 2 ^ s % 2 ^ 32 ≡ 0

@@ -1,20 +1,17 @@
 -- Demand 3, over every run that is not refused.
-use mathlib.Core.Path.{_≡_, refl, sym, _∙_, ap, ap₂, subst}
+use mathlib.Core.Path.{_≡_, refl, sym, _∙_, ap, subst}
 use mathlib.Core.Bool.{true}
-use mathlib.Core.List.{List, [], _∷_}
+use mathlib.Core.List.{List, []}
 use mathlib.Core.Logic.{_↔_}
-use Prim.Native.Nat.{ℕ, zero, suc, _+_, _%_, _^_, _≤_, _<_}
+use Prim.Native.Nat.{ℕ, zero, suc, _+_, _≤_, _<_}
 use native.Mathlib.Omega.{arith}
 use lib.ListN.{length}
-use Rattle.words.specs.Word.{signed}
 use Rattle.registers.specs.Registers.{wrappedSum}
 use Rattle.machine.specs.declared.Machine.{Machine}
 use Rattle.answers.specs.Numbers.{isDone}
-use Rattle.instructions.specs.declared.Instruction.{Instruction}
 use Rattle.instructions.specs.declared.Instruction.the-variants as Family
 use Rattle.instructions.specs.declared.Multiplier.the-variants.{Apac}
 use Rattle.instructions.specs.declared.Decoded.the-variants.{Base}
-use Rattle.instructions.specs.Decode.{decodeOf}
 use Rattle.traits.specs.declared.Operand.the-variants as Operand
 use Rattle.traits.specs.Pages.{traitsOf, multiplierTraits}
 use Rattle.passes.specs.declared.Jump.the-variants.{Past}
@@ -23,14 +20,13 @@ use Rattle.addressing.specs.Addressing.{addressed}
 use Rattle.multiplier.specs.Pages.{APAC}
 use Rattle.multiplier.specs.Rule.{multiplierRule}
 use Rattle.rules.specs.Rules.{ruleOf}
-use Rattle.windows.specs.Windows.{programWord}
 use Rattle.plans.specs.Pass.{effectOf, passedMachine, performed}
 use Rattle.steps.specs.World.{World}
 use Rattle.steps.specs.Table.{decodedAt, secondWord}
 use Rattle.steps.specs.Step.{stored, stepOf, runOf}
-use Rattle.frames.specs.Frames.{Pair, Accumulation, fromZero, productAdded, passed, stacked, exactSum, Near, Words, AllLeast}
+use Rattle.frames.specs.Frames.{Pair, Accumulation, fromZero, productAdded, passed, stacked, Words, AllLeast}
 use Rattle.frames.specs.FrameLaws.{below-128, at-128}
-use Rattle.stacking.specs.Stacking.{pairsRead, wordAhead, Sized, Stacks, lastWorld, words, Holds}
+use Rattle.stacking.specs.Stacking.{pairsRead, wordAhead, Stacks, lastWorld, words, Holds}
 use Rattle.stacking.specs.Passing.{step-does, RunsOn, runs-on, run-ended, operand-alike, accumulationOf, followed-follows, apac-works}
 use Rattle.stacking.specs.Passes.{plus, plus-is, Began, began, after, Passed, all-passed}
 

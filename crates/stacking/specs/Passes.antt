@@ -1,23 +1,18 @@
 -- The repeat instruction, the passes and the final product add, step by step.
-use mathlib.Core.Path.{_≡_, refl, sym, _∙_, ap, ap₂, subst}
+use mathlib.Core.Path.{_≡_, refl, _∙_, ap}
 use mathlib.Core.Bool.{Bool, true, false, cond}
 use mathlib.Core.List.{List, [], _∷_}
-use Prim.Native.Nat.{ℕ, zero, suc, _+_, _-_, _%_, _^_, _≤_, _<_}
+use Prim.Native.Nat.{ℕ, zero, suc, _+_, _-_, _^_, _<_}
 use native.Mathlib.Omega.{arith}
-use native.Mathlib.Numerals.{unary-clauses}
-use lib.ListN.{length, getD, set}
+use lib.ListN.{getD, set}
 use Rattle.registers.specs.Registers.{wrappedSum}
-use Rattle.products.specs.Products.{productWord}
 use Rattle.machine.specs.declared.Machine.{Machine}
 use Rattle.answers.specs.Numbers.{isDone}
 use Rattle.instructions.specs.declared.Instruction.{Instruction}
 use Rattle.instructions.specs.declared.Instruction.the-variants as Family
-use Rattle.instructions.specs.declared.Address.{Address}
 use Rattle.instructions.specs.declared.Modes.the-variants.{Rpt, Rptk}
-use Rattle.instructions.specs.declared.Multiplier.the-variants.{Mac, Macd, Apac}
-use Rattle.instructions.specs.declared.Decoded.{Decoded}
-use Rattle.instructions.specs.declared.Decoded.the-variants.{Base, Published, Nothing}
-use Rattle.instructions.specs.Decode.{decodeOf}
+use Rattle.instructions.specs.declared.Multiplier.the-variants.{Mac}
+use Rattle.instructions.specs.declared.Decoded.the-variants.{Base, Nothing}
 use Rattle.traits.specs.declared.Operand.the-variants.{At}
 use Rattle.traits.specs.Pages.{traitsOf, modesTraits, multiplierTraits}
 use Rattle.passes.specs.declared.Jump.the-variants.{Past}
@@ -25,7 +20,7 @@ use Rattle.passes.specs.Passes.{followed, destination}
 use Rattle.addressing.specs.Addressing.{addressed, addressOf}
 use Rattle.modes.specs.Pages.{RPT, RPTK}
 use Rattle.modes.specs.Rule.{modesRule}
-use Rattle.multiplier.specs.Pages.{APAC, MAC, MACD, tableAddress}
+use Rattle.multiplier.specs.Pages.{APAC, MAC, MACD}
 use Rattle.multiplier.specs.Rule.{multiplierRule}
 use Rattle.rules.specs.Rules.{ruleOf}
 use Rattle.regions.specs.Regions.{inRom, inProgramB0, moveAllowed}
@@ -37,9 +32,9 @@ use Rattle.plans.specs.Pass.{readWord, wordsRead, effectOf, passedMachine, pass
 use Rattle.steps.specs.World.{World}
 use Rattle.steps.specs.Table.{decodedAt, secondWord}
 use Rattle.steps.specs.Step.{stored, stepOf, runOf}
-use Rattle.frames.specs.Frames.{Pair, Accumulation, productAdded, accumulated, passed, Every, Words}
+use Rattle.frames.specs.Frames.{Pair, accumulated, passed, Every, Words}
 use Rattle.stacking.specs.Stacking.{pairFor, pairAt, pairsRead, Repeats, by-rptk, by-rpt, Accumulates, by-mac, by-macd, Sized}
-use Rattle.stacking.specs.Passing.{step-does, RunsOn, runs-on, run-ended, Alike, operand-alike, accumulationOf, Follows, followed-follows, again, goes-past, apac-works, mac-works, move-keeps}
+use Rattle.stacking.specs.Passing.{step-does, runs-on, Alike, operand-alike, accumulationOf, followed-follows, again, goes-past, mac-works, move-keeps}
 
 -- ---- words of 16 bits
 sized-set : (l : List ℕ) (j word : ℕ) → ((i : ℕ) → getD l i 0 < 2 ^ 16) → word < 2 ^ 16 → (i : ℕ) → getD (set l j word) i 0 < 2 ^ 16

@@ -1,25 +1,22 @@
 -- What the steps of a stack do to the cells that matter, and that they leave the program alone.
-use mathlib.Core.Path.{_≡_, refl, sym, _∙_, ap, ap₂, subst}
+use mathlib.Core.Path.{_≡_, refl, sym, _∙_, ap}
 use mathlib.Core.Bool.{Bool, true, false, cond, _&&_, false≢true}
-use mathlib.Core.List.{List, [], _∷_}
-use Prim.Native.Nat.{ℕ, zero, suc, _+_, _-_, _%_, _^_, _≤_, _<_}
+use mathlib.Core.List.{List, []}
+use Prim.Native.Nat.{ℕ, suc, _+_, _-_, _≤_}
 use native.Mathlib.Omega.{arith}
 use lib.Dec.{ltb}
 use lib.ListN.{length, getD, set}
-use lib.Seq.{getD-set-other, getD-set-same}
-use borrow.Author.Tests.{lt-ltb, le-ltb, eq-eqb}
+use lib.Seq.{getD-set-other}
+use borrow.Author.Tests.{lt-ltb, le-ltb}
 use Rattle.registers.specs.Registers.{wrappedSum}
-use Rattle.sums.specs.Sums.{added}
-use Rattle.products.specs.Products.{productWord, shiftedProduct}
 use Rattle.machine.specs.declared.Machine.{Machine}
 use Rattle.answers.specs.Numbers.{isDone}
 use Rattle.instructions.specs.declared.Instruction.{Instruction}
-use Rattle.instructions.specs.declared.Address.{Address}
 use Rattle.instructions.specs.declared.Address.the-variants as Mode
 use Rattle.instructions.specs.declared.NextArp.{NextArp}
 use Rattle.instructions.specs.declared.NextArp.the-variants as Next
 use Rattle.instructions.specs.declared.Decoded.{Decoded}
-use Rattle.instructions.specs.declared.Decoded.the-variants.{Base, Published, Nothing}
+use Rattle.instructions.specs.declared.Decoded.the-variants.{Base, Nothing}
 use Rattle.traits.specs.Pages.{traitsOf}
 use Rattle.traits.specs.declared.Operand.{Operand}
 use Rattle.traits.specs.declared.Operand.the-variants as Operand
@@ -28,7 +25,7 @@ use Rattle.passes.specs.declared.Jump.the-variants.{Past}
 use Rattle.passes.specs.Passes.{followed, destination}
 use Rattle.addressing.specs.Addressing.{pointed, modified, addressed}
 use Rattle.multiplier.specs.Pages.{APAC, MAC}
-use Rattle.regions.specs.Regions.{dataRegion, onChip, onChipRegion, moveAllowed, inRom, inProgramB0, programPresent}
+use Rattle.regions.specs.Regions.{dataRegion, onChip, onChipRegion, moveAllowed, inRom, inProgramB0}
 use Rattle.regions.specs.declared.Region.{Region}
 use Rattle.regions.specs.declared.Region.the-variants.{Absent, B2, B0, B1, External}
 use Rattle.regions.specs.RegionFacts.{Lies}
@@ -37,10 +34,10 @@ use Rattle.windows.specs.Windows.{windowOf, programWord}
 use Rattle.windows.specs.WindowLaws.{rom-word, b0-word}
 use Rattle.plans.specs.declared.Plan.{Plan}
 use Rattle.plans.specs.Pass.{performed, refused}
-use Rattle.steps.specs.World.{World, Outcome, RunOutcome}
+use Rattle.steps.specs.World.{World}
 use Rattle.steps.specs.Table.{decodedAt, secondWord, refusalOf}
 use Rattle.steps.specs.Step.{pagePlan, planOf, stored, stepOf, runOf}
-use Rattle.frames.specs.Frames.{Pair, Accumulation, productAdded, accumulated}
+use Rattle.frames.specs.Frames.{Accumulation, productAdded, accumulated}
 
 -- ---- a step that is done does what its page says
 

@@ -2,12 +2,10 @@
 use mathlib.Core.Path.{_≡_}
 use mathlib.Core.Bool.{true}
 use mathlib.Core.List.{List, [], _∷_}
-use mathlib.Core.Logic.{_↔_}
-use Prim.Native.Nat.{ℕ, zero, suc, _+_, _%_, _^_, _≤_, _<_}
+use Prim.Native.Nat.{ℕ, zero, suc, _+_, _%_, _^_, _<_}
 use lib.ListN.{getD}
 use Rattle.words.specs.Word.{signed}
 use Rattle.registers.specs.Registers.{wrappedSum}
-use Rattle.machine.specs.declared.Machine.{Machine}
 use Rattle.answers.specs.Numbers.{isDone}
 use Rattle.instructions.specs.declared.Instruction.{Instruction}
 use Rattle.instructions.specs.declared.Instruction.the-variants as Family
@@ -22,10 +20,10 @@ use Rattle.traits.specs.Pages.{traitsOf}
 use Rattle.addressing.specs.Addressing.{addressOf}
 use Rattle.windows.specs.Windows.{programWord}
 use Rattle.plans.specs.Pass.{wordsRead}
-use Rattle.steps.specs.World.{World, RunOutcome}
+use Rattle.steps.specs.World.{World}
 use Rattle.steps.specs.Table.{decodedAt, secondWord}
 use Rattle.steps.specs.Step.{stepOf, runOf}
-use Rattle.frames.specs.Frames.{Pair, Near, exactSum, AllLeast}
+use Rattle.frames.specs.Frames.{Pair, Near, exactSum}
 
 -- ---- the words that the passes read, taken from the run itself
 

@@ -2,7 +2,7 @@
 use mathlib.Core.Path.{_≡_, refl, sym, _∙_, ap}
 use mathlib.Core.Bool.{Bool, true, false, not, cond, false≢true}
 use mathlib.Core.List.{List, [], _∷_}
-use Prim.Native.Nat.{ℕ, zero, suc, _+_, _-_, _≤_, _<_}
+use Prim.Native.Nat.{ℕ, suc, _+_, _-_, _≤_, _<_}
 use native.Mathlib.Omega.{arith}
 use lib.ListN.{length}
 use borrow.Author.Tests.{not-false}
@@ -26,7 +26,7 @@ use Rattle.plans.specs.Pass.{refused, performed, passPlan}
 use Rattle.plans.specs.StoreLaws.{WriteFits, write-fits}
 use Rattle.steps.specs.World.{World, Outcome, RunOutcome}
 use Rattle.steps.specs.Table.{decodedAt, secondWord, notRepeatable, secondAbsent, checksOf}
-use Rattle.steps.specs.Step.{planOf, stepOf, runOf, oneMore, stopped}
+use Rattle.steps.specs.Step.{planOf, stepOf, runOf}
 use Rattle.steps.specs.Stages.{instructionPlan, decodedPlan, fetchPlan, stages}
 
 -- where a table gives Done its first row does not hold, and the rest gives Done

@@ -1,12 +1,12 @@
 -- Facts about whole numbers in a form that omega reads: every whole number is `up z` less `dn z`, and each operation has one equation, linear in those.
-use mathlib.Core.Path.{_≡_, refl, sym, _∙_, ap, subst}
+use mathlib.Core.Path.{_≡_, refl, ap}
 use mathlib.Core.Bool.{Bool, true, false, not, cond}
-use Prim.Native.Nat.{ℕ, zero, suc, _+_, _*_, _-_, _/_, _%_, _≤_, _<_}
+use Prim.Native.Nat.{ℕ, zero, suc, _+_, _*_, _-_, _≤_, _<_}
 use native.Mathlib.Omega.{arith}
 use native.Mathlib.Nat.{mul-div-le, lt-mul-div-succ}
-use lib.Dec.{T, leb, ltb, ltb→lt, nltb→le, leb→le, le→leb, lt→ltb, nleb→lt}
+use lib.Dec.{T, leb, ltb, ltb→lt, nltb→le, leb→le, le→leb}
 use lib.IntN.{ℤ, pos, negsuc, negℤ, subℕ, _+ℤ_, _-ℤ_, _*ℤ_, natAbs}
-use lib.Signed.{_≤ℤ_, _<ℤ_, leZ, ltZ, shrZ}
+use lib.Signed.{_≤ℤ_, leZ, shrZ}
 
 abbrev pub up : ℤ → ℕ
 up (pos n) = n

@@ -1,6 +1,5 @@
 use Rattle.replaying.specs.ReplayLaws.{placed-as, refused-replay}
 use Rattle.answers.specs.NumberLaws.{told}
-use mathlib.Core.Path.{sym, ap}
 use borrow.Author.Needs.{needs}
 use Rattle.replaying.proofs.replayed.Statement.{statement}
 use Rattle.replaying.proofs.replayed.Tie as tie

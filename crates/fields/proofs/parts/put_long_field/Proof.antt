@@ -1,8 +1,6 @@
 use Rattle.fields.specs.PlacingLaws.{put-then, room-first, room-then}
 use Rattle.digits.specs.DigitLaws.{eight-digits}
-use mathlib.Core.List.{_∷_}
 use Rattle.digits.specs.Digits.{hexadecimal}
-use Rattle.fields.specs.Placing.{space}
 use borrow.Author.Needs.{needs}
 use Rattle.fields.proofs.parts.put_long_field.Statement.{statement}
 use Rattle.fields.proofs.parts.put_long_field.Tie as tie

@@ -1,7 +1,6 @@
 use Rattle.fields.specs.PlacingLaws.{words-none, words-more, words-all, words-room, put-length}
 use Rattle.fields.specs.Facts.{WordsPut}
 use borrow.Author.Needs.{needs}
-use native.Mathlib.Omega.{arith}
 use Prim.Native.Nat.{_-_}
 use lib.ListN.{length}
 use Rattle.fields.proofs.parts.put_words.Statement.{statement}
