@@ -9,8 +9,8 @@ use shifts::Shifted;
 use words::logic;
 ghost use mathlib.Core.Path.{_≡_};
 ghost use Rattle.machine.specs.Cells.{withAcc};
-ghost use Rattle.accumulator.specs.Pages.{ADD, SUB, LAC, ADDH, ADDS, SUBH, SUBS, SUBC, ZALH, ZALS, AND, OR, XOR, SACL, SACH, LACK, ADDK, SUBK, CMPL, NEG, ABS, SFL, SFR, withShifted};
-ghost use Rattle.accumulator.specs.Rule.{accumulatorRule};
+ghost use Rattle.pages.specs.AccumulatorPages.{ADD, SUB, LAC, ADDH, ADDS, SUBH, SUBS, SUBC, ZALH, ZALS, AND, OR, XOR, SACL, SACH, LACK, ADDK, SUBK, CMPL, NEG, ABS, SFL, SFR, withShifted};
+ghost use Rattle.pages.specs.AccumulatorRule.{accumulatorRule};
 
 fn with_acc(m: Machine, acc: u32) -> Machine
     ensures { λ r. ⌜ r ≡ withAcc m acc ⌝ }

@@ -1,15 +1,15 @@
 // Auxiliary registers by number, the address of an operand, and the modification that an indirect operand asks for.
 
-use instructions::Address;
-use instructions::Indirect;
-use instructions::Modification;
-use instructions::NextArp;
+use dma::Address;
+use dma::Indirect;
+use dma::Modification;
+use dma::NextArp;
 use machine::Machine;
-use traits::Operand;
+use pages::Operand;
 ghost use mathlib.Core.Path.{_≡_};
 ghost use mathlib.Core.Bool.{cond};
 ghost use Rattle.machine.specs.Cells.{register, withRegister};
-ghost use Rattle.addressing.specs.Addressing.{moved, pointed, modified, addressed, addressOf};
+ghost use Rattle.pages.specs.Addressing.{moved, pointed, modified, addressed, addressOf};
 
 pub fn register_of(m: Machine, i: u8) -> u16
     ensures { λ r. ⌜ r ≡ register m i ⌝ }

@@ -7,9 +7,9 @@ use Rattle.instructions.specs.Pages.{pages}
 use Rattle.instructions.specs.Decode.{decodeOf}
 use Rattle.instructions.specs.declared.Accumulator.the-variants.{Lack}
 use Rattle.instructions.specs.declared.Auxiliary.the-variants.{Mar}
-use Rattle.instructions.specs.declared.Address.the-variants.{Direct, Indirect}
-use Rattle.instructions.specs.declared.Modification.the-variants.{None}
-use Rattle.instructions.specs.declared.NextArp.the-variants.{To}
+use Rattle.dma.specs.declared.Address.the-variants.{Direct, Indirect}
+use Rattle.dma.specs.declared.Modification.the-variants.{None}
+use Rattle.dma.specs.declared.NextArp.the-variants.{To}
 use Rattle.apart.specs.Having.{hasAt}
 
 -- Places 130, 131 and 132 of the list are ZAC, NOP and LARP.

@@ -9,9 +9,9 @@ use Prim.Native.String.{String}
 use Rattle.instructions.specs.Encoding.{pick, both, fits, lowFits, addressOf, indirectOf, modificationOf, nextOf, auxiliary}
 use Rattle.instructions.specs.Decode.{decodeOf}
 use Rattle.instructions.specs.declared.Auxiliary.the-variants.{Mar}
-use Rattle.instructions.specs.declared.Address.the-variants.{Indirect}
-use Rattle.instructions.specs.declared.Modification.the-variants.{None}
-use Rattle.instructions.specs.declared.NextArp.the-variants.{To}
+use Rattle.dma.specs.declared.Address.the-variants.{Indirect}
+use Rattle.dma.specs.declared.Modification.the-variants.{None}
+use Rattle.dma.specs.declared.NextArp.the-variants.{To}
 use Rattle.apart.specs.Shared.{ZacIsLack, NopIsMar, LarpIsMar}
 
 -- a test of a byte, computed over all bytes: where f passes, g does

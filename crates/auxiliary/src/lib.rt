@@ -7,8 +7,8 @@ use passes::Effect;
 use passes::keep;
 use passes::store_word;
 ghost use mathlib.Core.Path.{_≡_};
-ghost use Rattle.auxiliary.specs.Pages.{LAR, SAR, LARK, MAR, ADRK, SBRK, LDP, LDPK};
-ghost use Rattle.auxiliary.specs.Rule.{auxiliaryRule};
+ghost use Rattle.pages.specs.AuxiliaryPages.{LAR, SAR, LARK, MAR, ADRK, SBRK, LDP, LDPK};
+ghost use Rattle.pages.specs.AuxiliaryRule.{auxiliaryRule};
 
 fn lar(m: Machine, r: u8, w: u16) -> Machine
     ensures { λ r'. ⌜ r' ≡ LAR r w m ⌝ }

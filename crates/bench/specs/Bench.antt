@@ -9,24 +9,24 @@ use Rattle.machine.specs.Reset.{resetMachine}
 use Rattle.machine.specs.Range.{inRange}
 use Rattle.instructions.specs.Encoding.{lowFits, modificationOf, nextOf, indirectOf, addressOf}
 use Rattle.instructions.specs.Decode.{decodeOf}
-use Rattle.traits.specs.Pages.{traitsOf, accumulatorTraits, multiplierTraits, auxiliaryTraits}
-use Rattle.addressing.specs.Addressing.{moved, pointed, modified, addressed}
-use Rattle.addressing.specs.Addressing as addressing
-use Rattle.accumulator.specs.Pages.{ADDK, SUBK}
-use Rattle.accumulator.specs.Rule.{accumulatorRule}
-use Rattle.multiplier.specs.Pages.{PAC, APAC, SPAC, MPY, SQRA, SQRS, SPL, SPH, tableAddress}
-use Rattle.multiplier.specs.Rule.{multiplierRule}
-use Rattle.auxiliary.specs.Pages.{MAR}
-use Rattle.auxiliary.specs.Rule.{auxiliaryRule}
-use Rattle.rules.specs.Rules.{ruleOf}
+use Rattle.pages.specs.Traits.{traitsOf, accumulatorTraits, multiplierTraits, auxiliaryTraits}
+use Rattle.pages.specs.Addressing.{moved, pointed, modified, addressed}
+use Rattle.pages.specs.Addressing as addressing
+use Rattle.pages.specs.AccumulatorPages.{ADDK, SUBK}
+use Rattle.pages.specs.AccumulatorRule.{accumulatorRule}
+use Rattle.pages.specs.MultiplierPages.{PAC, APAC, SPAC, MPY, SQRA, SQRS, SPL, SPH, tableAddress}
+use Rattle.pages.specs.MultiplierRule.{multiplierRule}
+use Rattle.pages.specs.AuxiliaryPages.{MAR}
+use Rattle.pages.specs.AuxiliaryRule.{auxiliaryRule}
+use Rattle.pages.specs.Rules.{ruleOf}
 use Rattle.passes.specs.Passes.{followed, destination}
 use Rattle.regions.specs.Regions.{dataRegion, dataPresent, inRom, inProgramB0, programPresent}
 use Rattle.slices.specs.Slices.{memoriesFit, portFits, portSpent, slicesFit}
 use Rattle.windows.specs.Windows.{windowOf, programWord}
-use Rattle.refusals.specs.Rows.{firstGiven}
-use Rattle.refusals.specs.Refusals.{accesses, wrongPort, sends, addressAbove, dataAbsent, tableAbsent, outputFull}
+use Rattle.steps.specs.Rows.{firstGiven}
+use Rattle.steps.specs.Refusals.{accesses, wrongPort, sends, addressAbove, dataAbsent, tableAbsent, outputFull}
 use Rattle.stores.specs.Stores.{writeOf, dataAfter, outputAfter}
-use Rattle.plans.specs.Pass.{readWord, wordsRead, effectOf, passedMachine, passedWrite, performed}
+use Rattle.steps.specs.Pass.{readWord, wordsRead, effectOf, passedMachine, passedWrite, performed}
 use Rattle.steps.specs.Table.{decodedAt, secondAddress, secondWord, notRepeatable, secondAbsent, tableFor, refusalOf}
 use Rattle.steps.specs.Step.{pagePlan, planOf, stored, stepOf}
 use Rattle.bench.specs.Cases.{cases, found, expected}

@@ -1,3 +1,1 @@
-pub mod Pages
-pub mod Rule
 pub mod Signs

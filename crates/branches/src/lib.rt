@@ -9,8 +9,8 @@ use passes::jump_to;
 use passes::keep;
 ghost use mathlib.Core.Path.{_≡_};
 ghost use Rattle.machine.specs.Cells.{withOv};
-ghost use Rattle.branches.specs.Pages.{branched, B, BANZ, BZ, BNZ, BGZ, BGEZ, BLZ, BLEZ, BV, BNV, CALL, RET};
-ghost use Rattle.branches.specs.Rule.{branchesRule};
+ghost use Rattle.pages.specs.BranchesPages.{branched, B, BANZ, BZ, BNZ, BGZ, BGEZ, BLZ, BLEZ, BV, BNV, CALL, RET};
+ghost use Rattle.pages.specs.BranchesRule.{branchesRule};
 
 fn branch(test: bool, pma: u16, m: Machine) -> Effect
     ensures { λ r. ⌜ r ≡ branched test pma m ⌝ }

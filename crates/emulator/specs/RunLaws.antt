@@ -11,11 +11,11 @@ use Rattle.answers.specs.declared.Answer.the-variants.{Done, CellOutOfRange, Sl
 use Rattle.answers.specs.Numbers.{isDone}
 use Rattle.answers.specs.NumberLaws.{done-is}
 use Rattle.slices.specs.Slices.{slicesFit}
-use Rattle.plans.specs.declared.Plan.{Plan}
-use Rattle.refusals.specs.Rows.{row, firstGiven}
+use Rattle.steps.specs.declared.Plan.{Plan}
+use Rattle.steps.specs.Rows.{row, firstGiven}
 use Rattle.stores.specs.Stores.{dataAfter, outputAfter}
-use Rattle.plans.specs.Pass.{refused}
-use Rattle.plans.specs.StoreLaws.{WriteFits}
+use Rattle.steps.specs.Pass.{refused}
+use Rattle.steps.specs.StoreLaws.{WriteFits}
 use Rattle.steps.specs.World.{World, Outcome, RunOutcome}
 use Rattle.steps.specs.Table.{checksOf}
 use Rattle.steps.specs.Step.{planOf, stored, stepOf, runOf, oneMore}

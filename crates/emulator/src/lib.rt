@@ -10,7 +10,7 @@ ghost use lib.ListN.{length, set};
 ghost use Rattle.answers.specs.declared.Answer.the-variants.{Done};
 ghost use Rattle.kinds.specs.Table.{kindTable};
 ghost use Rattle.stores.specs.Stores.{dataAfter, outputAfter};
-ghost use Rattle.plans.specs.StoreLaws.{WriteFits};
+ghost use Rattle.steps.specs.StoreLaws.{WriteFits};
 ghost use Rattle.steps.specs.Table.{checksOf};
 ghost use Rattle.steps.specs.Step.{stepOf, runOf};
 ghost use Rattle.emulator.specs.Outcomes.{stepped, ran};

@@ -7,8 +7,8 @@ use Rattle.answers.specs.declared.Answer.the-variants.{ProgramAbsent}
 use Rattle.decoder.specs.ByTable.{decodeBy}
 use Rattle.regions.specs.Regions.{programPresent}
 use Rattle.windows.specs.Windows.{programWord}
-use Rattle.plans.specs.declared.Plan.{Plan}
-use Rattle.plans.specs.Pass.{refused}
+use Rattle.steps.specs.declared.Plan.{Plan}
+use Rattle.steps.specs.Pass.{refused}
 use Rattle.steps.specs.Stages.{decodedPlan}
 
 unfoldable pub fetchPlanBy : List ℕ → List ℕ → List ℕ → List ℕ → ℕ → Machine → Plan

@@ -4,15 +4,15 @@ use decoder::decode_by;
 use instructions::Decoded;
 use instructions::Instruction;
 use machine::Machine;
-use plans::Plan;
 use plans::plan_pass;
 use plans::program_word;
+use steps::Plan;
 use stores::Write;
 use traits::traits_of;
 ghost use mathlib.Core.Path.{_≡_};
 ghost use mathlib.Core.Bool.{cond};
 ghost use Rattle.windows.specs.Windows.{programWord};
-ghost use Rattle.plans.specs.Pass.{refused};
+ghost use Rattle.steps.specs.Pass.{refused};
 ghost use Rattle.steps.specs.Stages.{instructionPlan, decodedPlan};
 ghost use Rattle.fetching.specs.ByTable.{fetchPlanBy};
 

@@ -17,46 +17,46 @@ use Rattle.instructions.specs.declared.Instruction.{Instruction}
 use Rattle.instructions.specs.declared.Instruction.the-variants as Family
 use Rattle.instructions.specs.declared.Accumulator.{Accumulator}
 use Rattle.instructions.specs.declared.Accumulator.the-variants as Accumulator
-use Rattle.accumulator.specs.Rule.{accumulatorRule}
+use Rattle.pages.specs.AccumulatorRule.{accumulatorRule}
 use Rattle.instructions.specs.declared.Multiplier.{Multiplier}
 use Rattle.instructions.specs.declared.Multiplier.the-variants as Multiplier
-use Rattle.multiplier.specs.Rule.{multiplierRule}
+use Rattle.pages.specs.MultiplierRule.{multiplierRule}
 use Rattle.instructions.specs.declared.Auxiliary.{Auxiliary}
 use Rattle.instructions.specs.declared.Auxiliary.the-variants as Auxiliary
-use Rattle.auxiliary.specs.Rule.{auxiliaryRule}
+use Rattle.pages.specs.AuxiliaryRule.{auxiliaryRule}
 use Rattle.instructions.specs.declared.Modes.{Modes}
 use Rattle.instructions.specs.declared.Modes.the-variants as Modes
-use Rattle.modes.specs.Rule.{modesRule}
+use Rattle.pages.specs.ModesRule.{modesRule}
 use Rattle.instructions.specs.declared.Branches.{Branches}
 use Rattle.instructions.specs.declared.Branches.the-variants as Branches
-use Rattle.branches.specs.Rule.{branchesRule}
+use Rattle.pages.specs.BranchesRule.{branchesRule}
 use Rattle.instructions.specs.declared.Transfers.{Transfers}
 use Rattle.instructions.specs.declared.Transfers.the-variants as Transfers
-use Rattle.transfers.specs.Rule.{transfersRule}
-use Rattle.accumulator.specs.Pages.{ADD, SUB, LAC, ADDH, ADDS, SUBH, SUBS, SUBC, ZALH, ZALS, AND, OR, XOR, SACL, SACH, LACK, ADDK, SUBK, CMPL, NEG, ABS, SFL, SFR}
-use Rattle.multiplier.specs.Pages.{tableAddress, LT, LTA, LTP, LTD, LTS, MPY, MPYA, MPYS, MPYK, SQRA, SQRS, MAC, MACD, PAC, APAC, SPAC, SPL, SPH, SPM}
-use Rattle.auxiliary.specs.Pages.{LAR, SAR, LARK, MAR, ADRK, SBRK, LDP, LDPK}
-use Rattle.modes.specs.Pages.{SOVM, ROVM, SSXM, RSXM, CNFD, CNFP, RPT, RPTK, PUSH, POP}
-use Rattle.transfers.specs.Pages.{DMOV, IN, OUT}
+use Rattle.pages.specs.TransfersRule.{transfersRule}
+use Rattle.pages.specs.AccumulatorPages.{ADD, SUB, LAC, ADDH, ADDS, SUBH, SUBS, SUBC, ZALH, ZALS, AND, OR, XOR, SACL, SACH, LACK, ADDK, SUBK, CMPL, NEG, ABS, SFL, SFR}
+use Rattle.pages.specs.MultiplierPages.{tableAddress, LT, LTA, LTP, LTD, LTS, MPY, MPYA, MPYS, MPYK, SQRA, SQRS, MAC, MACD, PAC, APAC, SPAC, SPL, SPH, SPM}
+use Rattle.pages.specs.AuxiliaryPages.{LAR, SAR, LARK, MAR, ADRK, SBRK, LDP, LDPK}
+use Rattle.pages.specs.ModesPages.{SOVM, ROVM, SSXM, RSXM, CNFD, CNFP, RPT, RPTK, PUSH, POP}
+use Rattle.pages.specs.TransfersPages.{DMOV, IN, OUT}
 use Rattle.instructions.specs.declared.Decoded.the-variants.{Base}
-use Rattle.instructions.specs.declared.NextArp.{NextArp}
-use Rattle.instructions.specs.declared.NextArp.the-variants.{Same, To}
-use Rattle.instructions.specs.declared.Indirect.{Indirect}
-use Rattle.instructions.specs.declared.Address.the-variants as Mode
+use Rattle.dma.specs.declared.NextArp.{NextArp}
+use Rattle.dma.specs.declared.NextArp.the-variants.{Same, To}
+use Rattle.dma.specs.declared.Indirect.{Indirect}
+use Rattle.dma.specs.declared.Address.the-variants as Mode
 use Rattle.passes.specs.declared.Effect.{Effect}
 use Rattle.passes.specs.declared.Jump.the-variants as Jump
 use Rattle.passes.specs.Passes.{destination, followed}
-use Rattle.traits.specs.declared.Operand.{Operand}
-use Rattle.traits.specs.declared.Operand.the-variants as Operand
-use Rattle.traits.specs.declared.Traits.{Traits}
-use Rattle.traits.specs.Pages.{accumulatorTraits, multiplierTraits, auxiliaryTraits, branchesTraits, transfersTraits, modesTraits, traitsOf}
-use Rattle.addressing.specs.Addressing.{pointed, modified, addressed, addressOf}
-use Rattle.rules.specs.declared.Words.{Words}
-use Rattle.rules.specs.Rules.{ruleOf}
+use Rattle.pages.specs.declared.Operand.{Operand}
+use Rattle.pages.specs.declared.Operand.the-variants as Operand
+use Rattle.pages.specs.declared.Traits.{Traits}
+use Rattle.pages.specs.Traits.{accumulatorTraits, multiplierTraits, auxiliaryTraits, branchesTraits, transfersTraits, modesTraits, traitsOf}
+use Rattle.pages.specs.Addressing.{pointed, modified, addressed, addressOf}
+use Rattle.pages.specs.declared.Words.{Words}
+use Rattle.pages.specs.Rules.{ruleOf}
 use Rattle.slices.specs.Slices.{slicesFit}
-use Rattle.refusals.specs.Refusals.{addressAbove, dataAbsent, tableAbsent, outputFull}
+use Rattle.steps.specs.Refusals.{addressAbove, dataAbsent, tableAbsent, outputFull}
 use Rattle.stores.specs.Stores.{dataAfter, outputAfter}
-use Rattle.plans.specs.Pass.{wordsRead, effectOf, passedMachine, passedWrite, performed}
+use Rattle.steps.specs.Pass.{wordsRead, effectOf, passedMachine, passedWrite, performed}
 use Rattle.steps.specs.World.{World}
 use Rattle.steps.specs.Table.{decodedAt, secondAddress, secondWord, notRepeatable, secondAbsent, tableFor}
 use Rattle.steps.specs.Step.{stored, stepOf}

@@ -7,7 +7,7 @@ use native.Mathlib.Nat.{zero-add}
 use native.Mathlib.Omega.{arith}
 use lib.ListN.{length}
 use Rattle.answers.specs.Numbers.{numberOf, isDone}
-use Rattle.refusals.specs.Rows.{Row, firstGiven}
+use Rattle.steps.specs.Rows.{Row, firstGiven}
 use Rattle.steps.specs.World.{World, RunOutcome}
 use Rattle.steps.specs.Table.{tableFor, checksOf}
 use Rattle.steps.specs.Step.{stepOf, oneMore, runOf}

@@ -13,11 +13,11 @@ use Rattle.answers.specs.NumberLaws.{done-is}
 use Rattle.instructions.specs.declared.Instruction.{Instruction}
 use Rattle.instructions.specs.declared.Decoded.{Decoded}
 use Rattle.instructions.specs.declared.Decoded.the-variants.{Base, Published, Nothing}
-use Rattle.traits.specs.Pages.{traitsOf}
-use Rattle.plans.specs.declared.Plan.{Plan}
-use Rattle.refusals.specs.Rows.{Row, row, firstGiven}
+use Rattle.pages.specs.Traits.{traitsOf}
+use Rattle.steps.specs.declared.Plan.{Plan}
+use Rattle.steps.specs.Rows.{Row, row, firstGiven}
 use Rattle.stores.specs.Stores.{dataAfter, outputAfter}
-use Rattle.plans.specs.Pass.{performed, refused}
+use Rattle.steps.specs.Pass.{performed, refused}
 use Rattle.steps.specs.World.{World}
 use Rattle.steps.specs.Table.{decodedAt, secondWord, tableFor, refusalOf, checksOf}
 use Rattle.steps.specs.Step.{pagePlan, planOf, stored, stepOf}

@@ -5,17 +5,17 @@ ghost use Rattle.instructions.specs.Encoding.{modificationOf, nextOf, indirectO
 ghost use Rattle.instructions.specs.Encoding.{accumulator, multiplier, auxiliary, branches, transfers, modes};
 ghost use Rattle.instructions.specs.Places.{meaningAt};
 ghost use Rattle.instructions.specs.declared.Decoded.the-variants.{Base};
+use dma::Address;
+use dma::Indirect;
+use dma::Modification;
+use dma::NextArp;
 use instructions::Accumulator;
-use instructions::Address;
 use instructions::Auxiliary;
 use instructions::Branches;
 use instructions::Decoded;
-use instructions::Indirect;
 use instructions::Instruction;
 use instructions::Modes;
-use instructions::Modification;
 use instructions::Multiplier;
-use instructions::NextArp;
 use instructions::Transfers;
 
 // The number of pages.

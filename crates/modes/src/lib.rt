@@ -7,8 +7,8 @@ use passes::Effect;
 use passes::keep;
 use words::bits;
 ghost use mathlib.Core.Path.{_≡_};
-ghost use Rattle.modes.specs.Pages.{SOVM, ROVM, SSXM, RSXM, CNFD, CNFP, RPT, RPTK, PUSH, POP};
-ghost use Rattle.modes.specs.Rule.{modesRule};
+ghost use Rattle.pages.specs.ModesPages.{SOVM, ROVM, SSXM, RSXM, CNFD, CNFP, RPT, RPTK, PUSH, POP};
+ghost use Rattle.pages.specs.ModesRule.{modesRule};
 
 fn sovm(m: Machine) -> Machine
     ensures { λ r. ⌜ r ≡ SOVM m ⌝ }

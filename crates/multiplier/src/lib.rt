@@ -8,8 +8,8 @@ use passes::store_word;
 use passes::with_sum;
 ghost use mathlib.Core.Path.{_≡_};
 ghost use Rattle.machine.specs.Cells.{withP, withT};
-ghost use Rattle.multiplier.specs.Pages.{LT, LTA, LTP, LTD, LTS, MPY, MPYA, MPYS, MPYK, SQRA, SQRS, MAC, MACD, PAC, APAC, SPAC, SPL, SPH, SPM, tableAddress};
-ghost use Rattle.multiplier.specs.Rule.{multiplierRule};
+ghost use Rattle.pages.specs.MultiplierPages.{LT, LTA, LTP, LTD, LTS, MPY, MPYA, MPYS, MPYK, SQRA, SQRS, MAC, MACD, PAC, APAC, SPAC, SPL, SPH, SPM, tableAddress};
+ghost use Rattle.pages.specs.MultiplierRule.{multiplierRule};
 
 fn with_t(m: Machine, t: u16) -> Machine
     ensures { λ r. ⌜ r ≡ withT m t ⌝ }

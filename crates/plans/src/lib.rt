@@ -6,25 +6,20 @@ use answers::is_done;
 use instructions::Instruction;
 use machine::Machine;
 use multiplier::table_address;
+use pages::Access;
+use pages::Traits;
+use pages::Words;
 use passes::follow;
 use refusals::pass_refusal;
-use rules::Words;
 use rules::rule;
+use steps::Plan;
 use stores::Write;
 use stores::write_of;
-use traits::Access;
-use traits::Traits;
 ghost use mathlib.Core.Path.{_≡_};
 ghost use lib.ListN.{getD};
-ghost use Rattle.addressing.specs.Addressing.{addressOf};
+ghost use Rattle.pages.specs.Addressing.{addressOf};
 ghost use Rattle.windows.specs.Windows.{programWord};
-ghost use Rattle.plans.specs.Pass.{readWord, wordsRead, refused, performed, passPlan};
-
-pub struct Plan {
-    pub m: Machine,
-    pub answer: Answer,
-    pub write: Write,
-}
+ghost use Rattle.steps.specs.Pass.{readWord, wordsRead, refused, performed, passPlan};
 
 fn word_at(data: &[u16], address: u32) -> u16
     ensures { λ r. ⌜ r ≡ getD (now («data» .entry)) address 0 ⌝ }

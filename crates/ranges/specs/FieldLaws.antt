@@ -6,8 +6,8 @@ use Prim.Native.Nat.{ℕ, _/_, _%_}
 use native.Mathlib.Omega.{arith}
 use lib.Dec.{T, eqb, ltb}
 use borrow.Author.Tests.{ltb-true}
-use Rattle.instructions.specs.declared.NextArp.the-variants.{Same, To}
-use Rattle.instructions.specs.declared.Address.the-variants as Mode
+use Rattle.dma.specs.declared.NextArp.the-variants.{Same, To}
+use Rattle.dma.specs.declared.Address.the-variants as Mode
 use Rattle.instructions.specs.declared.Decoded.{Decoded}
 use Rattle.instructions.specs.declared.Decoded.the-variants.{Base, Published, Nothing}
 use Rattle.instructions.specs.Encoding.{Row, pick, both, has, means, first, addressOf, indirectOf, nextOf}

@@ -9,11 +9,11 @@ use lib.ListN.{length, take}
 use lib.Seq.{slice}
 use borrow.Author.Tests.{leb-false}
 use Rattle.machine.specs.declared.Machine.{Machine}
-use Rattle.instructions.specs.declared.Modification.{Modification}
-use Rattle.instructions.specs.declared.Modification.the-variants.{None, Minus, Plus, MinusReversed, MinusIndex, PlusIndex, PlusReversed}
-use Rattle.instructions.specs.declared.NextArp.{NextArp}
-use Rattle.instructions.specs.declared.NextArp.the-variants.{Same, To}
-use Rattle.instructions.specs.declared.Address.the-variants as Mode
+use Rattle.dma.specs.declared.Modification.{Modification}
+use Rattle.dma.specs.declared.Modification.the-variants.{None, Minus, Plus, MinusReversed, MinusIndex, PlusIndex, PlusReversed}
+use Rattle.dma.specs.declared.NextArp.{NextArp}
+use Rattle.dma.specs.declared.NextArp.the-variants.{Same, To}
+use Rattle.dma.specs.declared.Address.the-variants as Mode
 use Rattle.instructions.specs.declared.Instruction.{Instruction}
 use Rattle.instructions.specs.declared.Instruction.the-variants as Family
 use Rattle.instructions.specs.declared.Accumulator.{Accumulator}
@@ -28,18 +28,18 @@ use Rattle.instructions.specs.declared.Transfers.{Transfers}
 use Rattle.instructions.specs.declared.Transfers.the-variants as Transfers
 use Rattle.instructions.specs.declared.Modes.{Modes}
 use Rattle.instructions.specs.declared.Modes.the-variants as Modes
-use Rattle.traits.specs.declared.Access.{Access}
-use Rattle.traits.specs.declared.Access.the-variants as Access
-use Rattle.traits.specs.declared.Operand.{Operand}
-use Rattle.traits.specs.declared.Operand.the-variants.{Nothing, At}
-use Rattle.traits.specs.declared.Traits.{Traits}
-use Rattle.traits.specs.Pages.{accumulatorTraits, multiplierTraits, auxiliaryTraits, branchesTraits, transfersTraits, modesTraits, traitsOf}
-use Rattle.addressing.specs.Addressing.{moved, pointed, modified, addressed, addressOf}
-use Rattle.multiplier.specs.Pages.{tableAddress}
+use Rattle.pages.specs.declared.Access.{Access}
+use Rattle.pages.specs.declared.Access.the-variants as Access
+use Rattle.pages.specs.declared.Operand.{Operand}
+use Rattle.pages.specs.declared.Operand.the-variants.{Nothing, At}
+use Rattle.pages.specs.declared.Traits.{Traits}
+use Rattle.pages.specs.Traits.{accumulatorTraits, multiplierTraits, auxiliaryTraits, branchesTraits, transfersTraits, modesTraits, traitsOf}
+use Rattle.pages.specs.Addressing.{moved, pointed, modified, addressed, addressOf}
+use Rattle.pages.specs.MultiplierPages.{tableAddress}
 use Rattle.regions.specs.Regions.{inRom, inProgramB0}
 use Rattle.slices.specs.Slices.{portSpent}
 use Rattle.windows.specs.Windows.{windowOf, programWord}
-use Rattle.plans.specs.Pass.{readWord, wordsRead}
+use Rattle.steps.specs.Pass.{readWord, wordsRead}
 use Rattle.steps.specs.Table.{secondAddress, secondWord}
 use Rattle.ranges.specs.Ranges.{WordsFit}
 use Rattle.ranges.specs.Fields.{NextFits, AddressFits, accumulatorFits, multiplierFits, auxiliaryFits, branchesFits, transfersFits, modesFits, FieldsFit}

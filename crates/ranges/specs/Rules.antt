@@ -10,38 +10,38 @@ use Rattle.instructions.specs.declared.Instruction.{Instruction}
 use Rattle.instructions.specs.declared.Instruction.the-variants as Family
 use Rattle.instructions.specs.declared.Accumulator.{Accumulator}
 use Rattle.instructions.specs.declared.Accumulator.the-variants as Accumulator
-use Rattle.accumulator.specs.Rule.{accumulatorRule}
-use Rattle.accumulator.specs.Pages.{withShifted, ADD, SUB, LAC, ADDH, ADDS, SUBH, SUBS, SUBC, ZALH, ZALS, AND, OR, XOR, SACL, SACH, LACK, ADDK, SUBK, CMPL, NEG, ABS, SFL, SFR}
+use Rattle.pages.specs.AccumulatorRule.{accumulatorRule}
+use Rattle.pages.specs.AccumulatorPages.{withShifted, ADD, SUB, LAC, ADDH, ADDS, SUBH, SUBS, SUBC, ZALH, ZALS, AND, OR, XOR, SACL, SACH, LACK, ADDK, SUBK, CMPL, NEG, ABS, SFL, SFR}
 use Rattle.instructions.specs.declared.Multiplier.{Multiplier}
 use Rattle.instructions.specs.declared.Multiplier.the-variants as Multiplier
-use Rattle.multiplier.specs.Rule.{multiplierRule}
-use Rattle.multiplier.specs.Pages.{LT, LTA, LTP, LTD, LTS, MPY, MPYA, MPYS, MPYK, SQRA, SQRS, MAC, MACD, PAC, APAC, SPAC, SPL, SPH, SPM}
+use Rattle.pages.specs.MultiplierRule.{multiplierRule}
+use Rattle.pages.specs.MultiplierPages.{LT, LTA, LTP, LTD, LTS, MPY, MPYA, MPYS, MPYK, SQRA, SQRS, MAC, MACD, PAC, APAC, SPAC, SPL, SPH, SPM}
 use Rattle.instructions.specs.declared.Auxiliary.{Auxiliary}
 use Rattle.instructions.specs.declared.Auxiliary.the-variants as Auxiliary
-use Rattle.auxiliary.specs.Rule.{auxiliaryRule}
-use Rattle.auxiliary.specs.Pages.{LAR, SAR, LARK, MAR, ADRK, SBRK, LDP, LDPK}
+use Rattle.pages.specs.AuxiliaryRule.{auxiliaryRule}
+use Rattle.pages.specs.AuxiliaryPages.{LAR, SAR, LARK, MAR, ADRK, SBRK, LDP, LDPK}
 use Rattle.instructions.specs.declared.Branches.{Branches}
 use Rattle.instructions.specs.declared.Branches.the-variants as Branches
-use Rattle.branches.specs.Rule.{branchesRule}
-use Rattle.branches.specs.Pages.{branched, B, BANZ, BZ, BNZ, BGZ, BGEZ, BLZ, BLEZ, BV, BNV, CALL, RET}
+use Rattle.pages.specs.BranchesRule.{branchesRule}
+use Rattle.pages.specs.BranchesPages.{branched, B, BANZ, BZ, BNZ, BGZ, BGEZ, BLZ, BLEZ, BV, BNV, CALL, RET}
 use Rattle.instructions.specs.declared.Transfers.{Transfers}
 use Rattle.instructions.specs.declared.Transfers.the-variants as Transfers
-use Rattle.transfers.specs.Rule.{transfersRule}
-use Rattle.transfers.specs.Pages.{DMOV, IN, OUT}
+use Rattle.pages.specs.TransfersRule.{transfersRule}
+use Rattle.pages.specs.TransfersPages.{DMOV, IN, OUT}
 use Rattle.instructions.specs.declared.Modes.{Modes}
 use Rattle.instructions.specs.declared.Modes.the-variants as Modes
-use Rattle.modes.specs.Rule.{modesRule}
-use Rattle.modes.specs.Pages.{SOVM, ROVM, SSXM, RSXM, CNFD, CNFP, RPT, RPTK, PUSH, POP}
+use Rattle.pages.specs.ModesRule.{modesRule}
+use Rattle.pages.specs.ModesPages.{SOVM, ROVM, SSXM, RSXM, CNFD, CNFP, RPT, RPTK, PUSH, POP}
 use Rattle.passes.specs.declared.Store.{Store}
 use Rattle.passes.specs.declared.Store.the-variants as Left
 use Rattle.passes.specs.declared.Jump.{Jump}
 use Rattle.passes.specs.declared.Jump.the-variants.{Past, To}
 use Rattle.passes.specs.declared.Effect.{Effect}
 use Rattle.passes.specs.Passes.{withSum, kept, stored, copied, jumped}
-use Rattle.traits.specs.Pages.{traitsOf, transfersTraits}
-use Rattle.refusals.specs.Refusals.{sends}
-use Rattle.rules.specs.declared.Words.{Words}
-use Rattle.rules.specs.Rules.{ruleOf}
+use Rattle.pages.specs.Traits.{traitsOf, transfersTraits}
+use Rattle.steps.specs.Refusals.{sends}
+use Rattle.pages.specs.declared.Words.{Words}
+use Rattle.pages.specs.Rules.{ruleOf}
 use Rattle.ranges.specs.Fields.{accumulatorFits, multiplierFits, auxiliaryFits, modesFits, FieldsFit}
 use Rattle.ranges.specs.Cells.{Fits, set-acc, set-p, set-t, set-pfc, set-dp, set-pm, set-ov, set-ovm, set-sxm, set-c, set-cnf, set-rptc, set-input-cursor, set-output-cursor, set-register, set-pushed, set-popped, top-fits, cell-fits, register-fits}
 use Rattle.ranges.specs.Widths.{SumFits, ShiftedFits, added-fits, subtracted-fits, added-high-fits, subtracted-high-fits, negated-fits, absolute-fits, conditionally-fits, high-half-lt, operand-lt, unsigned-lt, stored-low-lt, stored-high-lt, left-fits, right-fits, anded-lt, ored-lt, xored-lt, complemented-lt, product-lt, shifted-lt, product-high-lt, product-low-lt, sum-lt, sum-le, difference-lt}

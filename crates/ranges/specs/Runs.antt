@@ -16,7 +16,7 @@ use Rattle.answers.specs.Numbers.{numberOf}
 use Rattle.instructions.specs.declared.Decoded.{Decoded}
 use Rattle.slices.specs.Slices.{memoriesFit, portFits, slicesFit}
 use Rattle.slices.specs.SliceLaws.{slices-fit}
-use Rattle.refusals.specs.Rows.{Row, row, firstGiven}
+use Rattle.steps.specs.Rows.{Row, row, firstGiven}
 use Rattle.steps.specs.World.{World, RunOutcome}
 use Rattle.steps.specs.Table.{decodedAt, tableFor, checksOf}
 use Rattle.steps.specs.Step.{stepOf, runOf}

@@ -20,18 +20,18 @@ use Rattle.passes.specs.declared.Store.the-variants as Left
 use Rattle.passes.specs.declared.Jump.{Jump}
 use Rattle.passes.specs.declared.Jump.the-variants.{Past, To}
 use Rattle.passes.specs.Passes.{destination, followed}
-use Rattle.traits.specs.declared.Traits.{Traits}
-use Rattle.traits.specs.Pages.{traitsOf}
-use Rattle.addressing.specs.Addressing.{addressOf}
+use Rattle.pages.specs.declared.Traits.{Traits}
+use Rattle.pages.specs.Traits.{traitsOf}
+use Rattle.pages.specs.Addressing.{addressOf}
 use Rattle.regions.specs.Regions.{moveAllowed}
 use Rattle.slices.specs.Slices.{memoriesFit, portFits, portSpent, slicesFit}
 use Rattle.slices.specs.SliceLaws.{slices-fit}
 use Rattle.stores.specs.declared.Write.{Write}
 use Rattle.stores.specs.declared.Write.the-variants as Write
-use Rattle.refusals.specs.Rows.{Row}
-use Rattle.refusals.specs.Refusals.{sends, outputFull}
+use Rattle.steps.specs.Rows.{Row}
+use Rattle.steps.specs.Refusals.{sends, outputFull}
 use Rattle.stores.specs.Stores.{writeOf, dataAfter, outputAfter}
-use Rattle.plans.specs.Pass.{wordsRead, effectOf, passedMachine, passedWrite, performed}
+use Rattle.steps.specs.Pass.{wordsRead, effectOf, passedMachine, passedWrite, performed}
 use Rattle.steps.specs.World.{World}
 use Rattle.steps.specs.Table.{decodedAt, secondWord, tableFor}
 use Rattle.steps.specs.Step.{stored, stepOf}

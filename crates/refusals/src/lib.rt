@@ -2,13 +2,13 @@
 use answers::Answer;
 use machine::Machine;
 use multiplier::table_address;
-use traits::Access;
-use traits::Port;
-use traits::Traits;
+use pages::Access;
+use pages::Port;
+use pages::Traits;
 ghost use mathlib.Core.Path.{_≡_};
 ghost use mathlib.Core.Bool.{not, _&&_};
 ghost use Rattle.regions.specs.Regions.{dataPresent, programPresent};
-ghost use Rattle.refusals.specs.Refusals.{accesses, wrongPort, sends, passRefusal};
+ghost use Rattle.steps.specs.Refusals.{accesses, wrongPort, sends, passRefusal};
 
 fn is_accessed(access: Access) -> bool
     ensures { λ r. ⌜ r ≡ accesses access ⌝ }

@@ -12,15 +12,15 @@ use Rattle.answers.specs.Numbers.{isDone}
 use Rattle.instructions.specs.declared.Instruction.the-variants as Family
 use Rattle.instructions.specs.declared.Multiplier.the-variants.{Apac}
 use Rattle.instructions.specs.declared.Decoded.the-variants.{Base}
-use Rattle.traits.specs.declared.Operand.the-variants as Operand
-use Rattle.traits.specs.Pages.{traitsOf, multiplierTraits}
+use Rattle.pages.specs.declared.Operand.the-variants as Operand
+use Rattle.pages.specs.Traits.{traitsOf, multiplierTraits}
 use Rattle.passes.specs.declared.Jump.the-variants.{Past}
 use Rattle.passes.specs.Passes.{followed}
-use Rattle.addressing.specs.Addressing.{addressed}
-use Rattle.multiplier.specs.Pages.{APAC}
-use Rattle.multiplier.specs.Rule.{multiplierRule}
-use Rattle.rules.specs.Rules.{ruleOf}
-use Rattle.plans.specs.Pass.{effectOf, passedMachine, performed}
+use Rattle.pages.specs.Addressing.{addressed}
+use Rattle.pages.specs.MultiplierPages.{APAC}
+use Rattle.pages.specs.MultiplierRule.{multiplierRule}
+use Rattle.pages.specs.Rules.{ruleOf}
+use Rattle.steps.specs.Pass.{effectOf, passedMachine, performed}
 use Rattle.steps.specs.World.{World}
 use Rattle.steps.specs.Table.{decodedAt, secondWord}
 use Rattle.steps.specs.Step.{stored, stepOf, runOf}

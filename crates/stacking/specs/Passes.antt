@@ -13,22 +13,22 @@ use Rattle.instructions.specs.declared.Instruction.the-variants as Family
 use Rattle.instructions.specs.declared.Modes.the-variants.{Rpt, Rptk}
 use Rattle.instructions.specs.declared.Multiplier.the-variants.{Mac}
 use Rattle.instructions.specs.declared.Decoded.the-variants.{Base, Nothing}
-use Rattle.traits.specs.declared.Operand.the-variants.{At}
-use Rattle.traits.specs.Pages.{traitsOf, modesTraits, multiplierTraits}
+use Rattle.pages.specs.declared.Operand.the-variants.{At}
+use Rattle.pages.specs.Traits.{traitsOf, modesTraits, multiplierTraits}
 use Rattle.passes.specs.declared.Jump.the-variants.{Past}
 use Rattle.passes.specs.Passes.{followed, destination}
-use Rattle.addressing.specs.Addressing.{addressed, addressOf}
-use Rattle.modes.specs.Pages.{RPT, RPTK}
-use Rattle.modes.specs.Rule.{modesRule}
-use Rattle.multiplier.specs.Pages.{APAC, MAC, MACD}
-use Rattle.multiplier.specs.Rule.{multiplierRule}
-use Rattle.rules.specs.Rules.{ruleOf}
+use Rattle.pages.specs.Addressing.{addressed, addressOf}
+use Rattle.pages.specs.ModesPages.{RPT, RPTK}
+use Rattle.pages.specs.ModesRule.{modesRule}
+use Rattle.pages.specs.MultiplierPages.{APAC, MAC, MACD}
+use Rattle.pages.specs.MultiplierRule.{multiplierRule}
+use Rattle.pages.specs.Rules.{ruleOf}
 use Rattle.regions.specs.Regions.{inRom, inProgramB0, moveAllowed}
 use Rattle.windows.specs.Windows.{windowOf, programWord}
 use Rattle.windows.specs.WindowLaws.{rom-word, b0-word}
 use Rattle.stores.specs.declared.Write.the-variants as Write
 use Rattle.stores.specs.Stores.{writeOf, dataAfter, outputAfter}
-use Rattle.plans.specs.Pass.{readWord, wordsRead, effectOf, passedMachine, passedWrite, performed}
+use Rattle.steps.specs.Pass.{readWord, wordsRead, effectOf, passedMachine, passedWrite, performed}
 use Rattle.steps.specs.World.{World}
 use Rattle.steps.specs.Table.{decodedAt, secondWord}
 use Rattle.steps.specs.Step.{stored, stepOf, runOf}

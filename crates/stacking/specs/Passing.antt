@@ -12,19 +12,19 @@ use Rattle.registers.specs.Registers.{wrappedSum}
 use Rattle.machine.specs.declared.Machine.{Machine}
 use Rattle.answers.specs.Numbers.{isDone}
 use Rattle.instructions.specs.declared.Instruction.{Instruction}
-use Rattle.instructions.specs.declared.Address.the-variants as Mode
-use Rattle.instructions.specs.declared.NextArp.{NextArp}
-use Rattle.instructions.specs.declared.NextArp.the-variants as Next
+use Rattle.dma.specs.declared.Address.the-variants as Mode
+use Rattle.dma.specs.declared.NextArp.{NextArp}
+use Rattle.dma.specs.declared.NextArp.the-variants as Next
 use Rattle.instructions.specs.declared.Decoded.{Decoded}
 use Rattle.instructions.specs.declared.Decoded.the-variants.{Base, Nothing}
-use Rattle.traits.specs.Pages.{traitsOf}
-use Rattle.traits.specs.declared.Operand.{Operand}
-use Rattle.traits.specs.declared.Operand.the-variants as Operand
+use Rattle.pages.specs.Traits.{traitsOf}
+use Rattle.pages.specs.declared.Operand.{Operand}
+use Rattle.pages.specs.declared.Operand.the-variants as Operand
 use Rattle.passes.specs.declared.Jump.{Jump}
 use Rattle.passes.specs.declared.Jump.the-variants.{Past}
 use Rattle.passes.specs.Passes.{followed, destination}
-use Rattle.addressing.specs.Addressing.{pointed, modified, addressed}
-use Rattle.multiplier.specs.Pages.{APAC, MAC}
+use Rattle.pages.specs.Addressing.{pointed, modified, addressed}
+use Rattle.pages.specs.MultiplierPages.{APAC, MAC}
 use Rattle.regions.specs.Regions.{dataRegion, onChip, onChipRegion, moveAllowed, inRom, inProgramB0}
 use Rattle.regions.specs.declared.Region.{Region}
 use Rattle.regions.specs.declared.Region.the-variants.{Absent, B2, B0, B1, External}
@@ -32,8 +32,8 @@ use Rattle.regions.specs.RegionFacts.{Lies}
 use Rattle.regions.specs.RegionLaws.{region-lies, moves, program-b0}
 use Rattle.windows.specs.Windows.{windowOf, programWord}
 use Rattle.windows.specs.WindowLaws.{rom-word, b0-word}
-use Rattle.plans.specs.declared.Plan.{Plan}
-use Rattle.plans.specs.Pass.{performed, refused}
+use Rattle.steps.specs.declared.Plan.{Plan}
+use Rattle.steps.specs.Pass.{performed, refused}
 use Rattle.steps.specs.World.{World}
 use Rattle.steps.specs.Table.{decodedAt, secondWord, refusalOf}
 use Rattle.steps.specs.Step.{pagePlan, planOf, stored, stepOf, runOf}

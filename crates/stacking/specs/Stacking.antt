@@ -9,17 +9,17 @@ use Rattle.registers.specs.Registers.{wrappedSum}
 use Rattle.answers.specs.Numbers.{isDone}
 use Rattle.instructions.specs.declared.Instruction.{Instruction}
 use Rattle.instructions.specs.declared.Instruction.the-variants as Family
-use Rattle.instructions.specs.declared.Address.{Address}
+use Rattle.dma.specs.declared.Address.{Address}
 use Rattle.instructions.specs.declared.Modes.the-variants.{Rpt, Rptk}
 use Rattle.instructions.specs.declared.Multiplier.the-variants.{Mac, Macd, Apac}
 use Rattle.instructions.specs.declared.Decoded.{Decoded}
 use Rattle.instructions.specs.declared.Decoded.the-variants.{Base, Published, Nothing}
 use Rattle.instructions.specs.Decode.{decodeOf}
-use Rattle.traits.specs.declared.Operand.the-variants.{At}
-use Rattle.traits.specs.Pages.{traitsOf}
-use Rattle.addressing.specs.Addressing.{addressOf}
+use Rattle.pages.specs.declared.Operand.the-variants.{At}
+use Rattle.pages.specs.Traits.{traitsOf}
+use Rattle.pages.specs.Addressing.{addressOf}
 use Rattle.windows.specs.Windows.{programWord}
-use Rattle.plans.specs.Pass.{wordsRead}
+use Rattle.steps.specs.Pass.{wordsRead}
 use Rattle.steps.specs.World.{World}
 use Rattle.steps.specs.Table.{decodedAt, secondWord}
 use Rattle.steps.specs.Step.{stepOf, runOf}

@@ -10,22 +10,22 @@ use Rattle.machine.specs.Reset.{resetMachine}
 use Rattle.machine.specs.Range.{inRange}
 use Rattle.instructions.specs.Encoding.{lowFits, modificationOf, nextOf, indirectOf, addressOf}
 use Rattle.instructions.specs.Decode.{decodeOf}
-use Rattle.traits.specs.Pages.{traitsOf, multiplierTraits, modesTraits}
-use Rattle.addressing.specs.Addressing.{moved, pointed, modified, addressed}
-use Rattle.addressing.specs.Addressing as addressing
-use Rattle.multiplier.specs.Pages.{APAC, MAC, tableAddress}
-use Rattle.modes.specs.Pages.{RPTK}
-use Rattle.modes.specs.Rule.{modesRule}
-use Rattle.multiplier.specs.Rule.{multiplierRule}
-use Rattle.rules.specs.Rules.{ruleOf}
+use Rattle.pages.specs.Traits.{traitsOf, multiplierTraits, modesTraits}
+use Rattle.pages.specs.Addressing.{moved, pointed, modified, addressed}
+use Rattle.pages.specs.Addressing as addressing
+use Rattle.pages.specs.MultiplierPages.{APAC, MAC, tableAddress}
+use Rattle.pages.specs.ModesPages.{RPTK}
+use Rattle.pages.specs.ModesRule.{modesRule}
+use Rattle.pages.specs.MultiplierRule.{multiplierRule}
+use Rattle.pages.specs.Rules.{ruleOf}
 use Rattle.passes.specs.Passes.{followed, destination}
 use Rattle.regions.specs.Regions.{dataRegion, dataPresent, inRom, inProgramB0, programPresent}
 use Rattle.slices.specs.Slices.{memoriesFit, portFits, portSpent, slicesFit}
 use Rattle.windows.specs.Windows.{windowOf, programWord}
-use Rattle.refusals.specs.Rows.{firstGiven}
-use Rattle.refusals.specs.Refusals.{accesses, wrongPort, sends, addressAbove, dataAbsent, tableAbsent, outputFull}
+use Rattle.steps.specs.Rows.{firstGiven}
+use Rattle.steps.specs.Refusals.{accesses, wrongPort, sends, addressAbove, dataAbsent, tableAbsent, outputFull}
 use Rattle.stores.specs.Stores.{writeOf, dataAfter, outputAfter}
-use Rattle.plans.specs.Pass.{readWord, wordsRead, effectOf, passedMachine, passedWrite, performed}
+use Rattle.steps.specs.Pass.{readWord, wordsRead, effectOf, passedMachine, passedWrite, performed}
 use Rattle.steps.specs.Table.{checksOf, decodedAt, secondAddress, secondWord, notRepeatable, secondAbsent, tableFor, refusalOf}
 use Rattle.steps.specs.Step.{pagePlan, planOf, stored, stepOf, runOf}
 use Rattle.answers.specs.Numbers.{numberOf}

@@ -18,7 +18,7 @@ use Rattle.regions.specs.Regions.{inRom, inProgramB0}
 use Rattle.windows.specs.Windows.{windowOf, programWord}
 use Rattle.steps.specs.Table.{decodedAt}
 use Rattle.instructions.specs.declared.Instruction.the-variants as Family
-use Rattle.instructions.specs.declared.Address.the-variants.{Direct}
+use Rattle.dma.specs.declared.Address.the-variants.{Direct}
 use Rattle.instructions.specs.declared.Modes.the-variants.{Rptk}
 use Rattle.instructions.specs.declared.Multiplier.the-variants.{Mac}
 use Rattle.steps.specs.World.{World}

@@ -1,7 +1,11 @@
 -- definitions
+pub mod Rows
+pub mod Refusals
+pub mod Pass
 pub mod World
 pub mod Table
 pub mod Step
 -- proofs
+pub mod StoreLaws
 pub mod Stages
 pub mod StepLaws

@@ -11,14 +11,14 @@ use Rattle.answers.specs.Numbers.{isDone}
 use Rattle.instructions.specs.declared.Instruction.{Instruction}
 use Rattle.instructions.specs.declared.Decoded.{Decoded}
 use Rattle.instructions.specs.declared.Decoded.the-variants.{Base, Published, Nothing}
-use Rattle.traits.specs.Pages.{traitsOf}
-use Rattle.addressing.specs.Addressing.{addressOf}
+use Rattle.pages.specs.Traits.{traitsOf}
+use Rattle.pages.specs.Addressing.{addressOf}
 use Rattle.regions.specs.Regions.{programPresent}
 use Rattle.slices.specs.Slices.{slicesFit}
-use Rattle.plans.specs.declared.Plan.{Plan}
-use Rattle.refusals.specs.Rows.{Row, row, firstGiven}
-use Rattle.refusals.specs.Refusals.{wrongPort, addressAbove, dataAbsent, tableAbsent, outputFull, passRefusal}
-use Rattle.plans.specs.Pass.{performed, refused, passPlan}
+use Rattle.steps.specs.declared.Plan.{Plan}
+use Rattle.steps.specs.Rows.{Row, row, firstGiven}
+use Rattle.steps.specs.Refusals.{wrongPort, addressAbove, dataAbsent, tableAbsent, outputFull, passRefusal}
+use Rattle.steps.specs.Pass.{performed, refused, passPlan}
 use Rattle.steps.specs.Table.{decodedAt, secondWord, notRepeatable, secondAbsent, tableFor, refusalOf}
 use Rattle.steps.specs.Step.{pagePlan, planOf}
 

@@ -8,10 +8,10 @@ use Rattle.answers.specs.declared.Answer.the-variants.{Done}
 use Rattle.answers.specs.Numbers.{isDone}
 use Rattle.instructions.specs.declared.Decoded.{Decoded}
 use Rattle.instructions.specs.declared.Decoded.the-variants.{Base, Published, Nothing}
-use Rattle.traits.specs.Pages.{traitsOf}
-use Rattle.plans.specs.declared.Plan.{Plan}
+use Rattle.pages.specs.Traits.{traitsOf}
+use Rattle.steps.specs.declared.Plan.{Plan}
 use Rattle.stores.specs.Stores.{dataAfter, outputAfter}
-use Rattle.plans.specs.Pass.{performed, refused}
+use Rattle.steps.specs.Pass.{performed, refused}
 use Rattle.steps.specs.World.{World, Outcome, RunOutcome}
 use Rattle.steps.specs.Table.{decodedAt, secondWord, refusalOf, checksOf}
 

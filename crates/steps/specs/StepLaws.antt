@@ -14,16 +14,16 @@ use Rattle.answers.specs.Numbers.{isDone}
 use Rattle.instructions.specs.declared.Instruction.{Instruction}
 use Rattle.instructions.specs.declared.Decoded.{Decoded}
 use Rattle.instructions.specs.declared.Decoded.the-variants.{Base, Published, Nothing}
-use Rattle.traits.specs.Pages.{traitsOf}
-use Rattle.addressing.specs.Addressing.{addressOf}
+use Rattle.pages.specs.Traits.{traitsOf}
+use Rattle.pages.specs.Addressing.{addressOf}
 use Rattle.regions.specs.Regions.{programPresent}
 use Rattle.slices.specs.Slices.{slicesFit}
 use Rattle.slices.specs.SliceLaws.{slices-fit}
-use Rattle.plans.specs.declared.Plan.{Plan}
-use Rattle.refusals.specs.Rows.{Row, row, firstGiven}
-use Rattle.refusals.specs.Refusals.{dataAbsent, passRefusal}
-use Rattle.plans.specs.Pass.{refused, performed, passPlan}
-use Rattle.plans.specs.StoreLaws.{WriteFits, write-fits}
+use Rattle.steps.specs.declared.Plan.{Plan}
+use Rattle.steps.specs.Rows.{Row, row, firstGiven}
+use Rattle.steps.specs.Refusals.{dataAbsent, passRefusal}
+use Rattle.steps.specs.Pass.{refused, performed, passPlan}
+use Rattle.steps.specs.StoreLaws.{WriteFits, write-fits}
 use Rattle.steps.specs.World.{World, Outcome, RunOutcome}
 use Rattle.steps.specs.Table.{decodedAt, secondWord, notRepeatable, secondAbsent, checksOf}
 use Rattle.steps.specs.Step.{planOf, stepOf, runOf}

@@ -12,13 +12,13 @@ use Rattle.instructions.specs.declared.Instruction.{Instruction}
 use Rattle.instructions.specs.declared.Decoded.{Decoded}
 use Rattle.instructions.specs.declared.Decoded.the-variants.{Base, Published, Nothing}
 use Rattle.instructions.specs.Decode.{decodeOf}
-use Rattle.traits.specs.Pages.{traitsOf}
-use Rattle.addressing.specs.Addressing.{addressOf}
+use Rattle.pages.specs.Traits.{traitsOf}
+use Rattle.pages.specs.Addressing.{addressOf}
 use Rattle.regions.specs.Regions.{programPresent}
 use Rattle.slices.specs.Slices.{slicesFit}
 use Rattle.windows.specs.Windows.{programWord}
-use Rattle.refusals.specs.Rows.{Row, row, firstGiven}
-use Rattle.refusals.specs.Refusals.{wrongPort, addressAbove, dataAbsent, tableAbsent, outputFull}
+use Rattle.steps.specs.Rows.{Row, row, firstGiven}
+use Rattle.steps.specs.Refusals.{wrongPort, addressAbove, dataAbsent, tableAbsent, outputFull}
 
 -- what the word at PC is
 unfoldable pub decodedAt : List ℕ → List ℕ → Machine → Decoded

@@ -1,44 +1,19 @@
 // What each page says of its instruction besides its rule.
+use dma::Address;
+use dma::Indirect;
 use instructions::Accumulator;
-use instructions::Address;
 use instructions::Auxiliary;
 use instructions::Branches;
-use instructions::Indirect;
 use instructions::Instruction;
 use instructions::Modes;
 use instructions::Multiplier;
 use instructions::Transfers;
+use pages::Access;
+use pages::Operand;
+use pages::Port;
+use pages::Traits;
 ghost use mathlib.Core.Path.{_≡_};
-ghost use Rattle.traits.specs.Pages.{plain, constant, reading, writing, modifying, counting, tabled, branching, taking, sending, accumulatorTraits, multiplierTraits, auxiliaryTraits, branchesTraits, transfersTraits, modesTraits, traitsOf};
-
-// What an instruction's address field asks for.
-pub enum Operand {
-    Nothing,
-    At(Address),
-}
-
-// Whether the addressed data word is read, written, or not touched.
-pub enum Access {
-    None,
-    Reads,
-    Writes,
-}
-
-pub enum Port {
-    None,
-    Input(u8),
-    Output(u8),
-}
-
-pub struct Traits {
-    pub words: u16,
-    pub port: Port,
-    pub repeatable: bool,
-    pub access: Access,
-    // A MAC or MACD reads a program word besides.
-    pub table: bool,
-    pub operand: Operand,
-}
+ghost use Rattle.pages.specs.Traits.{plain, constant, reading, writing, modifying, counting, tabled, branching, taking, sending, accumulatorTraits, multiplierTraits, auxiliaryTraits, branchesTraits, transfersTraits, modesTraits, traitsOf};
 
 fn plain_traits() -> Traits
     ensures { λ r. ⌜ r ≡ plain ⌝ }

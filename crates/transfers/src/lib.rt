@@ -6,8 +6,8 @@ use passes::copy_word;
 use passes::send_word;
 use passes::store_word;
 ghost use mathlib.Core.Path.{_≡_};
-ghost use Rattle.transfers.specs.Pages.{DMOV, IN, OUT};
-ghost use Rattle.transfers.specs.Rule.{transfersRule};
+ghost use Rattle.pages.specs.TransfersPages.{DMOV, IN, OUT};
+ghost use Rattle.pages.specs.TransfersRule.{transfersRule};
 
 fn dmov(w: u16, m: Machine) -> Effect
     ensures { λ r. ⌜ r ≡ DMOV w m ⌝ }

@@ -1,4 +1,4 @@
-use Rattle.accumulator.specs.Pages.{ABS}
+use Rattle.pages.specs.AccumulatorPages.{ABS}
 use borrow.Author.Needs.{needs}
 use Rattle.accumulator.proofs.abs.Statement.{statement}
 use Rattle.accumulator.proofs.abs.Tie as tie

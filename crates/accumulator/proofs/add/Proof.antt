@@ -1,4 +1,4 @@
-use Rattle.accumulator.specs.Pages.{ADD}
+use Rattle.pages.specs.AccumulatorPages.{ADD}
 use borrow.Author.Needs.{needs}
 use Rattle.accumulator.proofs.add.Statement.{statement}
 use Rattle.accumulator.proofs.add.Tie as tie

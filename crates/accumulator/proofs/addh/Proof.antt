@@ -1,4 +1,4 @@
-use Rattle.accumulator.specs.Pages.{ADDH}
+use Rattle.pages.specs.AccumulatorPages.{ADDH}
 use borrow.Author.Needs.{needs}
 use Rattle.accumulator.proofs.addh.Statement.{statement}
 use Rattle.accumulator.proofs.addh.Tie as tie

@@ -1,4 +1,4 @@
-use Rattle.accumulator.specs.Pages.{ADDK}
+use Rattle.pages.specs.AccumulatorPages.{ADDK}
 use borrow.Author.Needs.{needs}
 use Rattle.accumulator.proofs.addk.Statement.{statement}
 use Rattle.accumulator.proofs.addk.Tie as tie

@@ -1,4 +1,4 @@
-use Rattle.accumulator.specs.Pages.{ADDS}
+use Rattle.pages.specs.AccumulatorPages.{ADDS}
 use borrow.Author.Needs.{needs}
 use Rattle.accumulator.proofs.adds.Statement.{statement}
 use Rattle.accumulator.proofs.adds.Tie as tie

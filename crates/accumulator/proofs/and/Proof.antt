@@ -1,4 +1,4 @@
-use Rattle.accumulator.specs.Pages.{AND}
+use Rattle.pages.specs.AccumulatorPages.{AND}
 use borrow.Author.Needs.{needs}
 use Rattle.accumulator.proofs.and.Statement.{statement}
 use Rattle.accumulator.proofs.and.Tie as tie

@@ -1,4 +1,4 @@
-use Rattle.accumulator.specs.Pages.{CMPL}
+use Rattle.pages.specs.AccumulatorPages.{CMPL}
 use borrow.Author.Needs.{needs}
 use Rattle.accumulator.proofs.cmpl.Statement.{statement}
 use Rattle.accumulator.proofs.cmpl.Tie as tie

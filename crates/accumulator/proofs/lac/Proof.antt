@@ -1,4 +1,4 @@
-use Rattle.accumulator.specs.Pages.{LAC}
+use Rattle.pages.specs.AccumulatorPages.{LAC}
 use borrow.Author.Needs.{needs}
 use Rattle.accumulator.proofs.lac.Statement.{statement}
 use Rattle.accumulator.proofs.lac.Tie as tie

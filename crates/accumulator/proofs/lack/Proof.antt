@@ -1,4 +1,4 @@
-use Rattle.accumulator.specs.Pages.{LACK}
+use Rattle.pages.specs.AccumulatorPages.{LACK}
 use borrow.Author.Needs.{needs}
 use Rattle.accumulator.proofs.lack.Statement.{statement}
 use Rattle.accumulator.proofs.lack.Tie as tie

@@ -1,4 +1,4 @@
-use Rattle.accumulator.specs.Pages.{NEG}
+use Rattle.pages.specs.AccumulatorPages.{NEG}
 use borrow.Author.Needs.{needs}
 use Rattle.accumulator.proofs.neg.Statement.{statement}
 use Rattle.accumulator.proofs.neg.Tie as tie

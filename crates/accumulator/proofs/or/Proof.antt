@@ -1,4 +1,4 @@
-use Rattle.accumulator.specs.Pages.{OR}
+use Rattle.pages.specs.AccumulatorPages.{OR}
 use borrow.Author.Needs.{needs}
 use Rattle.accumulator.proofs.or.Statement.{statement}
 use Rattle.accumulator.proofs.or.Tie as tie

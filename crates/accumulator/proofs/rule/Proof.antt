@@ -1,4 +1,4 @@
-use Rattle.accumulator.specs.Rule.{accumulatorRule}
+use Rattle.pages.specs.AccumulatorRule.{accumulatorRule}
 use borrow.Author.Needs.{needs}
 use Rattle.accumulator.proofs.rule.Statement.{statement}
 use Rattle.accumulator.proofs.rule.Tie as tie

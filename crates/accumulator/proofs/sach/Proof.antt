@@ -1,4 +1,4 @@
-use Rattle.accumulator.specs.Pages.{SACH}
+use Rattle.pages.specs.AccumulatorPages.{SACH}
 use borrow.Author.Needs.{needs}
 use Rattle.accumulator.proofs.sach.Statement.{statement}
 use Rattle.accumulator.proofs.sach.Tie as tie

@@ -1,4 +1,4 @@
-use Rattle.accumulator.specs.Pages.{SACL}
+use Rattle.pages.specs.AccumulatorPages.{SACL}
 use borrow.Author.Needs.{needs}
 use Rattle.accumulator.proofs.sacl.Statement.{statement}
 use Rattle.accumulator.proofs.sacl.Tie as tie

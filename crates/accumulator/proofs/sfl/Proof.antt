@@ -1,4 +1,4 @@
-use Rattle.accumulator.specs.Pages.{SFL}
+use Rattle.pages.specs.AccumulatorPages.{SFL}
 use borrow.Author.Needs.{needs}
 use Rattle.accumulator.proofs.sfl.Statement.{statement}
 use Rattle.accumulator.proofs.sfl.Tie as tie

@@ -1,4 +1,4 @@
-use Rattle.accumulator.specs.Pages.{SFR}
+use Rattle.pages.specs.AccumulatorPages.{SFR}
 use borrow.Author.Needs.{needs}
 use Rattle.accumulator.proofs.sfr.Statement.{statement}
 use Rattle.accumulator.proofs.sfr.Tie as tie

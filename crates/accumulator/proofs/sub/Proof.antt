@@ -1,4 +1,4 @@
-use Rattle.accumulator.specs.Pages.{SUB}
+use Rattle.pages.specs.AccumulatorPages.{SUB}
 use borrow.Author.Needs.{needs}
 use Rattle.accumulator.proofs.sub.Statement.{statement}
 use Rattle.accumulator.proofs.sub.Tie as tie

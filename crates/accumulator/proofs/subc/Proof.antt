@@ -1,4 +1,4 @@
-use Rattle.accumulator.specs.Pages.{SUBC}
+use Rattle.pages.specs.AccumulatorPages.{SUBC}
 use borrow.Author.Needs.{needs}
 use Rattle.accumulator.proofs.subc.Statement.{statement}
 use Rattle.accumulator.proofs.subc.Tie as tie

@@ -1,4 +1,4 @@
-use Rattle.accumulator.specs.Pages.{SUBH}
+use Rattle.pages.specs.AccumulatorPages.{SUBH}
 use borrow.Author.Needs.{needs}
 use Rattle.accumulator.proofs.subh.Statement.{statement}
 use Rattle.accumulator.proofs.subh.Tie as tie

@@ -1,4 +1,4 @@
-use Rattle.accumulator.specs.Pages.{SUBK}
+use Rattle.pages.specs.AccumulatorPages.{SUBK}
 use borrow.Author.Needs.{needs}
 use Rattle.accumulator.proofs.subk.Statement.{statement}
 use Rattle.accumulator.proofs.subk.Tie as tie

@@ -1,4 +1,4 @@
-use Rattle.accumulator.specs.Pages.{SUBS}
+use Rattle.pages.specs.AccumulatorPages.{SUBS}
 use borrow.Author.Needs.{needs}
 use Rattle.accumulator.proofs.subs.Statement.{statement}
 use Rattle.accumulator.proofs.subs.Tie as tie

@@ -1,4 +1,4 @@
-use Rattle.accumulator.specs.Pages.{XOR}
+use Rattle.pages.specs.AccumulatorPages.{XOR}
 use borrow.Author.Needs.{needs}
 use Rattle.accumulator.proofs.xor.Statement.{statement}
 use Rattle.accumulator.proofs.xor.Tie as tie

@@ -1,4 +1,4 @@
-use Rattle.accumulator.specs.Pages.{ZALH}
+use Rattle.pages.specs.AccumulatorPages.{ZALH}
 use borrow.Author.Needs.{needs}
 use Rattle.accumulator.proofs.zalh.Statement.{statement}
 use Rattle.accumulator.proofs.zalh.Tie as tie

@@ -1,4 +1,4 @@
-use Rattle.accumulator.specs.Pages.{ZALS}
+use Rattle.pages.specs.AccumulatorPages.{ZALS}
 use borrow.Author.Needs.{needs}
 use Rattle.accumulator.proofs.zals.Statement.{statement}
 use Rattle.accumulator.proofs.zals.Tie as tie

@@ -1,4 +1,4 @@
-use Rattle.addressing.specs.Addressing.{addressOf}
+use Rattle.pages.specs.Addressing.{addressOf}
 use borrow.Author.Needs.{needs}
 use Rattle.addressing.proofs.address_of.Statement.{statement}
 use Rattle.addressing.proofs.address_of.Tie as tie

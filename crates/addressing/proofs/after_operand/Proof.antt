@@ -1,4 +1,4 @@
-use Rattle.addressing.specs.Addressing.{addressed}
+use Rattle.pages.specs.Addressing.{addressed}
 use borrow.Author.Needs.{needs}
 use Rattle.addressing.proofs.after_operand.Statement.{statement}
 use Rattle.addressing.proofs.after_operand.Tie as tie

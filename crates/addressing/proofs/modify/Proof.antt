@@ -1,4 +1,4 @@
-use Rattle.addressing.specs.Addressing.{modified}
+use Rattle.pages.specs.Addressing.{modified}
 use borrow.Author.Needs.{needs}
 use Rattle.addressing.proofs.modify.Statement.{statement}
 use Rattle.addressing.proofs.modify.Tie as tie

@@ -1,4 +1,4 @@
-use Rattle.addressing.specs.Addressing.{moved}
+use Rattle.pages.specs.Addressing.{moved}
 use borrow.Author.Needs.{needs}
 use Rattle.addressing.proofs.moved_register.Statement.{statement}
 use Rattle.addressing.proofs.moved_register.Tie as tie

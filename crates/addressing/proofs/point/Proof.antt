@@ -1,4 +1,4 @@
-use Rattle.addressing.specs.Addressing.{pointed}
+use Rattle.pages.specs.Addressing.{pointed}
 use borrow.Author.Needs.{needs}
 use Rattle.addressing.proofs.point.Statement.{statement}
 use Rattle.addressing.proofs.point.Tie as tie

@@ -1,4 +1,4 @@
-use Rattle.auxiliary.specs.Pages.{ADRK}
+use Rattle.pages.specs.AuxiliaryPages.{ADRK}
 use borrow.Author.Needs.{needs}
 use Rattle.auxiliary.proofs.adrk.Statement.{statement}
 use Rattle.auxiliary.proofs.adrk.Tie as tie

@@ -1,4 +1,4 @@
-use Rattle.auxiliary.specs.Pages.{LAR}
+use Rattle.pages.specs.AuxiliaryPages.{LAR}
 use borrow.Author.Needs.{needs}
 use Rattle.auxiliary.proofs.lar.Statement.{statement}
 use Rattle.auxiliary.proofs.lar.Tie as tie

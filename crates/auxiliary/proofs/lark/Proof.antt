@@ -1,4 +1,4 @@
-use Rattle.auxiliary.specs.Pages.{LARK}
+use Rattle.pages.specs.AuxiliaryPages.{LARK}
 use borrow.Author.Needs.{needs}
 use Rattle.auxiliary.proofs.lark.Statement.{statement}
 use Rattle.auxiliary.proofs.lark.Tie as tie

@@ -1,4 +1,4 @@
-use Rattle.auxiliary.specs.Pages.{LDP}
+use Rattle.pages.specs.AuxiliaryPages.{LDP}
 use mathlib.Core.Path.{refl}
 use Rattle.auxiliary.proofs.ldp.Statement.{statement}
 use Rattle.auxiliary.proofs.ldp.Tie as tie

@@ -1,4 +1,4 @@
-use Rattle.auxiliary.specs.Pages.{LDPK}
+use Rattle.pages.specs.AuxiliaryPages.{LDPK}
 use mathlib.Core.Path.{refl}
 use Rattle.auxiliary.proofs.ldpk.Statement.{statement}
 use Rattle.auxiliary.proofs.ldpk.Tie as tie

@@ -1,4 +1,4 @@
-use Rattle.auxiliary.specs.Pages.{MAR}
+use Rattle.pages.specs.AuxiliaryPages.{MAR}
 use mathlib.Core.Path.{refl}
 use Rattle.auxiliary.proofs.mar.Statement.{statement}
 use Rattle.auxiliary.proofs.mar.Tie as tie

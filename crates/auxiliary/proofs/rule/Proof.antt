@@ -1,4 +1,4 @@
-use Rattle.auxiliary.specs.Rule.{auxiliaryRule}
+use Rattle.pages.specs.AuxiliaryRule.{auxiliaryRule}
 use borrow.Author.Needs.{needs}
 use Rattle.auxiliary.proofs.rule.Statement.{statement}
 use Rattle.auxiliary.proofs.rule.Tie as tie

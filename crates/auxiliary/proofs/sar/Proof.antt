@@ -1,4 +1,4 @@
-use Rattle.auxiliary.specs.Pages.{SAR}
+use Rattle.pages.specs.AuxiliaryPages.{SAR}
 use borrow.Author.Needs.{needs}
 use Rattle.auxiliary.proofs.sar.Statement.{statement}
 use Rattle.auxiliary.proofs.sar.Tie as tie

@@ -1,4 +1,4 @@
-use Rattle.auxiliary.specs.Pages.{SBRK}
+use Rattle.pages.specs.AuxiliaryPages.{SBRK}
 use borrow.Author.Needs.{needs}
 use Rattle.auxiliary.proofs.sbrk.Statement.{statement}
 use Rattle.auxiliary.proofs.sbrk.Tie as tie

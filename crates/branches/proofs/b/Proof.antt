@@ -1,4 +1,4 @@
-use Rattle.branches.specs.Pages.{B}
+use Rattle.pages.specs.BranchesPages.{B}
 use borrow.Author.Needs.{needs}
 use Rattle.branches.proofs.b.Statement.{statement}
 use Rattle.branches.proofs.b.Tie as tie

@@ -1,4 +1,4 @@
-use Rattle.branches.specs.Pages.{BANZ}
+use Rattle.pages.specs.BranchesPages.{BANZ}
 use borrow.Author.Needs.{needs}
 use Rattle.branches.proofs.banz.Statement.{statement}
 use Rattle.branches.proofs.banz.Tie as tie

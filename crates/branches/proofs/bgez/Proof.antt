@@ -1,6 +1,6 @@
 use Rattle.branches.specs.Signs.{is-not-negative}
 use native.Mathlib.Omega.{arith}
-use Rattle.branches.specs.Pages.{BGEZ}
+use Rattle.pages.specs.BranchesPages.{BGEZ}
 use borrow.Author.Needs.{needs}
 use Rattle.branches.proofs.bgez.Statement.{statement}
 use Rattle.branches.proofs.bgez.Tie as tie

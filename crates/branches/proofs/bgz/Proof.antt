@@ -1,6 +1,6 @@
 use Rattle.branches.specs.Signs.{is-positive}
 use native.Mathlib.Omega.{arith}
-use Rattle.branches.specs.Pages.{BGZ}
+use Rattle.pages.specs.BranchesPages.{BGZ}
 use borrow.Author.Needs.{needs}
 use Rattle.branches.proofs.bgz.Statement.{statement}
 use Rattle.branches.proofs.bgz.Tie as tie

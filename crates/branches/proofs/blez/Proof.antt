@@ -1,6 +1,6 @@
 use Rattle.branches.specs.Signs.{is-not-positive}
 use native.Mathlib.Omega.{arith}
-use Rattle.branches.specs.Pages.{BLEZ}
+use Rattle.pages.specs.BranchesPages.{BLEZ}
 use borrow.Author.Needs.{needs}
 use Rattle.branches.proofs.blez.Statement.{statement}
 use Rattle.branches.proofs.blez.Tie as tie

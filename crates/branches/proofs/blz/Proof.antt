@@ -1,6 +1,6 @@
 use Rattle.branches.specs.Signs.{is-negative}
 use native.Mathlib.Omega.{arith}
-use Rattle.branches.specs.Pages.{BLZ}
+use Rattle.pages.specs.BranchesPages.{BLZ}
 use borrow.Author.Needs.{needs}
 use Rattle.branches.proofs.blz.Statement.{statement}
 use Rattle.branches.proofs.blz.Tie as tie

@@ -1,4 +1,4 @@
-use Rattle.branches.specs.Pages.{BNV}
+use Rattle.pages.specs.BranchesPages.{BNV}
 use borrow.Author.Needs.{needs}
 use Rattle.branches.proofs.bnv.Statement.{statement}
 use Rattle.branches.proofs.bnv.Tie as tie

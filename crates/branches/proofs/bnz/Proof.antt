@@ -1,4 +1,4 @@
-use Rattle.branches.specs.Pages.{BNZ}
+use Rattle.pages.specs.BranchesPages.{BNZ}
 use borrow.Author.Needs.{needs}
 use Rattle.branches.proofs.bnz.Statement.{statement}
 use Rattle.branches.proofs.bnz.Tie as tie

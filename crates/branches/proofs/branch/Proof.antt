@@ -1,4 +1,4 @@
-use Rattle.branches.specs.Pages.{branched}
+use Rattle.pages.specs.BranchesPages.{branched}
 use borrow.Author.Needs.{needs}
 use Rattle.branches.proofs.branch.Statement.{statement}
 use Rattle.branches.proofs.branch.Tie as tie

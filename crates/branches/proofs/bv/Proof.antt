@@ -1,4 +1,4 @@
-use Rattle.branches.specs.Pages.{BV}
+use Rattle.pages.specs.BranchesPages.{BV}
 use borrow.Author.Needs.{needs}
 use Rattle.branches.proofs.bv.Statement.{statement}
 use Rattle.branches.proofs.bv.Tie as tie

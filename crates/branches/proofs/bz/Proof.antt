@@ -1,4 +1,4 @@
-use Rattle.branches.specs.Pages.{BZ}
+use Rattle.pages.specs.BranchesPages.{BZ}
 use borrow.Author.Needs.{needs}
 use Rattle.branches.proofs.bz.Statement.{statement}
 use Rattle.branches.proofs.bz.Tie as tie

@@ -1,4 +1,4 @@
-use Rattle.branches.specs.Pages.{CALL}
+use Rattle.pages.specs.BranchesPages.{CALL}
 use borrow.Author.Needs.{needs}
 use Rattle.branches.proofs.call.Statement.{statement}
 use Rattle.branches.proofs.call.Tie as tie

@@ -1,4 +1,4 @@
-use Rattle.branches.specs.Pages.{RET}
+use Rattle.pages.specs.BranchesPages.{RET}
 use borrow.Author.Needs.{needs}
 use Rattle.branches.proofs.ret.Statement.{statement}
 use Rattle.branches.proofs.ret.Tie as tie

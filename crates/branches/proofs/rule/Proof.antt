@@ -1,4 +1,4 @@
-use Rattle.branches.specs.Rule.{branchesRule}
+use Rattle.pages.specs.BranchesRule.{branchesRule}
 use borrow.Author.Needs.{needs}
 use Rattle.branches.proofs.rule.Statement.{statement}
 use Rattle.branches.proofs.rule.Tie as tie

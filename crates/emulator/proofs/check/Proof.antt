@@ -1,5 +1,5 @@
 use Rattle.steps.specs.Table.{checksOf}
-use Rattle.refusals.specs.Rows.{firstGiven}
+use Rattle.steps.specs.Rows.{firstGiven}
 use borrow.Author.Needs.{needs}
 use Rattle.emulator.proofs.check.Statement.{statement}
 use Rattle.emulator.proofs.check.Tie as tie

@@ -1,4 +1,4 @@
-use Rattle.modes.specs.Pages.{CNFD}
+use Rattle.pages.specs.ModesPages.{CNFD}
 use mathlib.Core.Path.{refl}
 use Rattle.modes.proofs.cnfd.Statement.{statement}
 use Rattle.modes.proofs.cnfd.Tie as tie

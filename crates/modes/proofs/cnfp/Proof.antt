@@ -1,4 +1,4 @@
-use Rattle.modes.specs.Pages.{CNFP}
+use Rattle.pages.specs.ModesPages.{CNFP}
 use mathlib.Core.Path.{refl}
 use Rattle.modes.proofs.cnfp.Statement.{statement}
 use Rattle.modes.proofs.cnfp.Tie as tie

@@ -1,4 +1,4 @@
-use Rattle.modes.specs.Pages.{POP}
+use Rattle.pages.specs.ModesPages.{POP}
 use borrow.Author.Needs.{needs}
 use Rattle.modes.proofs.pop.Statement.{statement}
 use Rattle.modes.proofs.pop.Tie as tie

@@ -1,4 +1,4 @@
-use Rattle.modes.specs.Pages.{PUSH}
+use Rattle.pages.specs.ModesPages.{PUSH}
 use borrow.Author.Needs.{needs}
 use Rattle.modes.proofs.push.Statement.{statement}
 use Rattle.modes.proofs.push.Tie as tie

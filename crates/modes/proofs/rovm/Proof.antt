@@ -1,4 +1,4 @@
-use Rattle.modes.specs.Pages.{ROVM}
+use Rattle.pages.specs.ModesPages.{ROVM}
 use mathlib.Core.Path.{refl}
 use Rattle.modes.proofs.rovm.Statement.{statement}
 use Rattle.modes.proofs.rovm.Tie as tie

@@ -1,4 +1,4 @@
-use Rattle.modes.specs.Pages.{RPT}
+use Rattle.pages.specs.ModesPages.{RPT}
 use mathlib.Core.Path.{refl}
 use Rattle.modes.proofs.rpt.Statement.{statement}
 use Rattle.modes.proofs.rpt.Tie as tie

@@ -1,4 +1,4 @@
-use Rattle.modes.specs.Pages.{RPTK}
+use Rattle.pages.specs.ModesPages.{RPTK}
 use mathlib.Core.Path.{refl}
 use Rattle.modes.proofs.rptk.Statement.{statement}
 use Rattle.modes.proofs.rptk.Tie as tie

@@ -1,4 +1,4 @@
-use Rattle.modes.specs.Pages.{RSXM}
+use Rattle.pages.specs.ModesPages.{RSXM}
 use mathlib.Core.Path.{refl}
 use Rattle.modes.proofs.rsxm.Statement.{statement}
 use Rattle.modes.proofs.rsxm.Tie as tie

@@ -1,4 +1,4 @@
-use Rattle.modes.specs.Rule.{modesRule}
+use Rattle.pages.specs.ModesRule.{modesRule}
 use borrow.Author.Needs.{needs}
 use Rattle.modes.proofs.rule.Statement.{statement}
 use Rattle.modes.proofs.rule.Tie as tie

@@ -1,4 +1,4 @@
-use Rattle.modes.specs.Pages.{SOVM}
+use Rattle.pages.specs.ModesPages.{SOVM}
 use mathlib.Core.Path.{refl}
 use Rattle.modes.proofs.sovm.Statement.{statement}
 use Rattle.modes.proofs.sovm.Tie as tie

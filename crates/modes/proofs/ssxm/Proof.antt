@@ -1,4 +1,4 @@
-use Rattle.modes.specs.Pages.{SSXM}
+use Rattle.pages.specs.ModesPages.{SSXM}
 use mathlib.Core.Path.{refl}
 use Rattle.modes.proofs.ssxm.Statement.{statement}
 use Rattle.modes.proofs.ssxm.Tie as tie

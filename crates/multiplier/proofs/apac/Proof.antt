@@ -1,4 +1,4 @@
-use Rattle.multiplier.specs.Pages.{APAC}
+use Rattle.pages.specs.MultiplierPages.{APAC}
 use borrow.Author.Needs.{needs}
 use Rattle.multiplier.proofs.apac.Statement.{statement}
 use Rattle.multiplier.proofs.apac.Tie as tie

@@ -1,4 +1,4 @@
-use Rattle.multiplier.specs.Pages.{LT}
+use Rattle.pages.specs.MultiplierPages.{LT}
 use borrow.Author.Needs.{needs}
 use Rattle.multiplier.proofs.lt.Statement.{statement}
 use Rattle.multiplier.proofs.lt.Tie as tie

@@ -1,4 +1,4 @@
-use Rattle.multiplier.specs.Pages.{LTA}
+use Rattle.pages.specs.MultiplierPages.{LTA}
 use borrow.Author.Needs.{needs}
 use Rattle.multiplier.proofs.lta.Statement.{statement}
 use Rattle.multiplier.proofs.lta.Tie as tie

@@ -1,4 +1,4 @@
-use Rattle.multiplier.specs.Pages.{LTD}
+use Rattle.pages.specs.MultiplierPages.{LTD}
 use borrow.Author.Needs.{needs}
 use Rattle.multiplier.proofs.ltd.Statement.{statement}
 use Rattle.multiplier.proofs.ltd.Tie as tie

@@ -1,4 +1,4 @@
-use Rattle.multiplier.specs.Pages.{LTP}
+use Rattle.pages.specs.MultiplierPages.{LTP}
 use borrow.Author.Needs.{needs}
 use Rattle.multiplier.proofs.ltp.Statement.{statement}
 use Rattle.multiplier.proofs.ltp.Tie as tie

@@ -1,4 +1,4 @@
-use Rattle.multiplier.specs.Pages.{LTS}
+use Rattle.pages.specs.MultiplierPages.{LTS}
 use borrow.Author.Needs.{needs}
 use Rattle.multiplier.proofs.lts.Statement.{statement}
 use Rattle.multiplier.proofs.lts.Tie as tie

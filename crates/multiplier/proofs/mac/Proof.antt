@@ -1,4 +1,4 @@
-use Rattle.multiplier.specs.Pages.{MAC}
+use Rattle.pages.specs.MultiplierPages.{MAC}
 use borrow.Author.Needs.{needs}
 use Rattle.multiplier.proofs.mac.Statement.{statement}
 use Rattle.multiplier.proofs.mac.Tie as tie

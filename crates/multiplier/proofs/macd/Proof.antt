@@ -1,4 +1,4 @@
-use Rattle.multiplier.specs.Pages.{MAC, MACD}
+use Rattle.pages.specs.MultiplierPages.{MAC, MACD}
 use borrow.Author.Needs.{needs}
 use Rattle.multiplier.proofs.macd.Statement.{statement}
 use Rattle.multiplier.proofs.macd.Tie as tie

@@ -1,4 +1,4 @@
-use Rattle.multiplier.specs.Pages.{MPY}
+use Rattle.pages.specs.MultiplierPages.{MPY}
 use borrow.Author.Needs.{needs}
 use Rattle.multiplier.proofs.mpy.Statement.{statement}
 use Rattle.multiplier.proofs.mpy.Tie as tie

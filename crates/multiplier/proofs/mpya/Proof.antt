@@ -1,4 +1,4 @@
-use Rattle.multiplier.specs.Pages.{MPYA}
+use Rattle.pages.specs.MultiplierPages.{MPYA}
 use borrow.Author.Needs.{needs}
 use Rattle.multiplier.proofs.mpya.Statement.{statement}
 use Rattle.multiplier.proofs.mpya.Tie as tie

@@ -1,4 +1,4 @@
-use Rattle.multiplier.specs.Pages.{MPYK}
+use Rattle.pages.specs.MultiplierPages.{MPYK}
 use borrow.Author.Needs.{needs}
 use Rattle.multiplier.proofs.mpyk.Statement.{statement}
 use Rattle.multiplier.proofs.mpyk.Tie as tie

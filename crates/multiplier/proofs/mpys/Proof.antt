@@ -1,4 +1,4 @@
-use Rattle.multiplier.specs.Pages.{MPYS}
+use Rattle.pages.specs.MultiplierPages.{MPYS}
 use borrow.Author.Needs.{needs}
 use Rattle.multiplier.proofs.mpys.Statement.{statement}
 use Rattle.multiplier.proofs.mpys.Tie as tie

@@ -1,4 +1,4 @@
-use Rattle.multiplier.specs.Pages.{PAC}
+use Rattle.pages.specs.MultiplierPages.{PAC}
 use borrow.Author.Needs.{needs}
 use Rattle.multiplier.proofs.pac.Statement.{statement}
 use Rattle.multiplier.proofs.pac.Tie as tie

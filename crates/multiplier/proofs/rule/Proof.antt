@@ -1,4 +1,4 @@
-use Rattle.multiplier.specs.Rule.{multiplierRule}
+use Rattle.pages.specs.MultiplierRule.{multiplierRule}
 use borrow.Author.Needs.{needs}
 use Rattle.multiplier.proofs.rule.Statement.{statement}
 use Rattle.multiplier.proofs.rule.Tie as tie

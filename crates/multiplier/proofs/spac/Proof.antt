@@ -1,4 +1,4 @@
-use Rattle.multiplier.specs.Pages.{SPAC}
+use Rattle.pages.specs.MultiplierPages.{SPAC}
 use borrow.Author.Needs.{needs}
 use Rattle.multiplier.proofs.spac.Statement.{statement}
 use Rattle.multiplier.proofs.spac.Tie as tie

@@ -1,4 +1,4 @@
-use Rattle.multiplier.specs.Pages.{SPH}
+use Rattle.pages.specs.MultiplierPages.{SPH}
 use borrow.Author.Needs.{needs}
 use Rattle.multiplier.proofs.sph.Statement.{statement}
 use Rattle.multiplier.proofs.sph.Tie as tie

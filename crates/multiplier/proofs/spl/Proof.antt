@@ -1,4 +1,4 @@
-use Rattle.multiplier.specs.Pages.{SPL}
+use Rattle.pages.specs.MultiplierPages.{SPL}
 use borrow.Author.Needs.{needs}
 use Rattle.multiplier.proofs.spl.Statement.{statement}
 use Rattle.multiplier.proofs.spl.Tie as tie

@@ -1,4 +1,4 @@
-use Rattle.multiplier.specs.Pages.{SPM}
+use Rattle.pages.specs.MultiplierPages.{SPM}
 use mathlib.Core.Path.{refl}
 use Rattle.multiplier.proofs.spm.Statement.{statement}
 use Rattle.multiplier.proofs.spm.Tie as tie

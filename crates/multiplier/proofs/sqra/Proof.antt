@@ -1,4 +1,4 @@
-use Rattle.multiplier.specs.Pages.{SQRA}
+use Rattle.pages.specs.MultiplierPages.{SQRA}
 use borrow.Author.Needs.{needs}
 use Rattle.multiplier.proofs.sqra.Statement.{statement}
 use Rattle.multiplier.proofs.sqra.Tie as tie

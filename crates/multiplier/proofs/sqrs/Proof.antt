@@ -1,4 +1,4 @@
-use Rattle.multiplier.specs.Pages.{SQRS}
+use Rattle.pages.specs.MultiplierPages.{SQRS}
 use borrow.Author.Needs.{needs}
 use Rattle.multiplier.proofs.sqrs.Statement.{statement}
 use Rattle.multiplier.proofs.sqrs.Tie as tie

@@ -1,5 +1,5 @@
 use borrow.Author.Tests.{eq-eqb, ne-eqb}
-use Rattle.multiplier.specs.Pages.{tableAddress}
+use Rattle.pages.specs.MultiplierPages.{tableAddress}
 use Rattle.multiplier.proofs.table_address.Statement.{statement}
 use Rattle.multiplier.proofs.table_address.Tie as tie
 

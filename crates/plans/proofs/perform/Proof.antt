@@ -1,4 +1,4 @@
-use Rattle.plans.specs.Pass.{performed, passedMachine, passedWrite, effectOf}
+use Rattle.steps.specs.Pass.{performed, passedMachine, passedWrite, effectOf}
 use borrow.Author.Needs.{needs}
 use Rattle.plans.proofs.perform.Statement.{statement}
 use Rattle.plans.proofs.perform.Tie as tie

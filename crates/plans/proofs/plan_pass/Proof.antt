@@ -1,4 +1,4 @@
-use Rattle.plans.specs.Pass.{passPlan}
+use Rattle.steps.specs.Pass.{passPlan}
 use borrow.Author.Needs.{needs}
 use Rattle.plans.proofs.plan_pass.Statement.{statement}
 use Rattle.plans.proofs.plan_pass.Tie as tie

@@ -1,4 +1,4 @@
-use Rattle.plans.specs.Pass.{readWord}
+use Rattle.steps.specs.Pass.{readWord}
 use borrow.Author.Needs.{needs}
 use Rattle.plans.proofs.read_word.Statement.{statement}
 use Rattle.plans.proofs.read_word.Tie as tie

@@ -1,4 +1,4 @@
-use Rattle.plans.specs.Pass.{wordsRead}
+use Rattle.steps.specs.Pass.{wordsRead}
 use borrow.Author.Needs.{needs}
 use Rattle.plans.proofs.words_read.Statement.{statement}
 use Rattle.plans.proofs.words_read.Tie as tie

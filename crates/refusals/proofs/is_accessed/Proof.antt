@@ -1,4 +1,4 @@
-use Rattle.refusals.specs.Refusals.{accesses}
+use Rattle.steps.specs.Refusals.{accesses}
 use borrow.Author.Needs.{needs}
 use Rattle.refusals.proofs.is_accessed.Statement.{statement}
 use Rattle.refusals.proofs.is_accessed.Tie as tie

@@ -1,4 +1,4 @@
-use Rattle.refusals.specs.Refusals.{sends}
+use Rattle.steps.specs.Refusals.{sends}
 use borrow.Author.Needs.{needs}
 use Rattle.refusals.proofs.is_sent.Statement.{statement}
 use Rattle.refusals.proofs.is_sent.Tie as tie

@@ -1,4 +1,4 @@
-use Rattle.refusals.specs.Refusals.{wrongPort}
+use Rattle.steps.specs.Refusals.{wrongPort}
 use borrow.Author.Needs.{needs}
 use Rattle.refusals.proofs.is_wrong_port.Statement.{statement}
 use Rattle.refusals.proofs.is_wrong_port.Tie as tie

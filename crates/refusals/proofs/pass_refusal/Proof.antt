@@ -1,5 +1,5 @@
-use Rattle.refusals.specs.Rows.{firstGiven}
-use Rattle.refusals.specs.Refusals.{passRefusal, addressAbove, dataAbsent, tableAbsent, outputFull}
+use Rattle.steps.specs.Rows.{firstGiven}
+use Rattle.steps.specs.Refusals.{passRefusal, addressAbove, dataAbsent, tableAbsent, outputFull}
 use borrow.Author.Needs.{needs}
 use Rattle.refusals.proofs.pass_refusal.Statement.{statement}
 use Rattle.refusals.proofs.pass_refusal.Tie as tie

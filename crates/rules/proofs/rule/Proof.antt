@@ -1,4 +1,4 @@
-use Rattle.rules.specs.Rules.{ruleOf}
+use Rattle.pages.specs.Rules.{ruleOf}
 use borrow.Author.Needs.{needs}
 use Rattle.rules.proofs.rule.Statement.{statement}
 use Rattle.rules.proofs.rule.Tie as tie

@@ -1,4 +1,4 @@
-use Rattle.traits.specs.Pages.{accumulatorTraits}
+use Rattle.pages.specs.Traits.{accumulatorTraits}
 use borrow.Author.Needs.{needs}
 use Rattle.traits.proofs.accumulator_traits.Statement.{statement}
 use Rattle.traits.proofs.accumulator_traits.Tie as tie

@@ -1,4 +1,4 @@
-use Rattle.traits.specs.Pages.{auxiliaryTraits}
+use Rattle.pages.specs.Traits.{auxiliaryTraits}
 use borrow.Author.Needs.{needs}
 use Rattle.traits.proofs.auxiliary_traits.Statement.{statement}
 use Rattle.traits.proofs.auxiliary_traits.Tie as tie

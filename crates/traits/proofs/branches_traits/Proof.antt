@@ -1,4 +1,4 @@
-use Rattle.traits.specs.Pages.{branchesTraits}
+use Rattle.pages.specs.Traits.{branchesTraits}
 use borrow.Author.Needs.{needs}
 use Rattle.traits.proofs.branches_traits.Statement.{statement}
 use Rattle.traits.proofs.branches_traits.Tie as tie

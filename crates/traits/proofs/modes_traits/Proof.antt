@@ -1,4 +1,4 @@
-use Rattle.traits.specs.Pages.{modesTraits}
+use Rattle.pages.specs.Traits.{modesTraits}
 use borrow.Author.Needs.{needs}
 use Rattle.traits.proofs.modes_traits.Statement.{statement}
 use Rattle.traits.proofs.modes_traits.Tie as tie

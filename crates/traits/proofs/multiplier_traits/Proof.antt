@@ -1,4 +1,4 @@
-use Rattle.traits.specs.Pages.{multiplierTraits}
+use Rattle.pages.specs.Traits.{multiplierTraits}
 use borrow.Author.Needs.{needs}
 use Rattle.traits.proofs.multiplier_traits.Statement.{statement}
 use Rattle.traits.proofs.multiplier_traits.Tie as tie

@@ -1,4 +1,4 @@
-use Rattle.traits.specs.Pages.{traitsOf}
+use Rattle.pages.specs.Traits.{traitsOf}
 use borrow.Author.Needs.{needs}
 use Rattle.traits.proofs.traits_of.Statement.{statement}
 use Rattle.traits.proofs.traits_of.Tie as tie

@@ -1,4 +1,4 @@
-use Rattle.traits.specs.Pages.{transfersTraits}
+use Rattle.pages.specs.Traits.{transfersTraits}
 use borrow.Author.Needs.{needs}
 use Rattle.traits.proofs.transfers_traits.Statement.{statement}
 use Rattle.traits.proofs.transfers_traits.Tie as tie

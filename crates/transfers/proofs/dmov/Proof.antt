@@ -1,4 +1,4 @@
-use Rattle.transfers.specs.Pages.{DMOV}
+use Rattle.pages.specs.TransfersPages.{DMOV}
 use borrow.Author.Needs.{needs}
 use Rattle.transfers.proofs.dmov.Statement.{statement}
 use Rattle.transfers.proofs.dmov.Tie as tie

@@ -1,4 +1,4 @@
-use Rattle.transfers.specs.Pages.{IN}
+use Rattle.pages.specs.TransfersPages.{IN}
 use borrow.Author.Needs.{needs}
 use Rattle.transfers.proofs.input.Statement.{statement}
 use Rattle.transfers.proofs.input.Tie as tie

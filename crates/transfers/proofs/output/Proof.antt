@@ -1,4 +1,4 @@
-use Rattle.transfers.specs.Pages.{OUT}
+use Rattle.pages.specs.TransfersPages.{OUT}
 use borrow.Author.Needs.{needs}
 use Rattle.transfers.proofs.output.Statement.{statement}
 use Rattle.transfers.proofs.output.Tie as tie

@@ -1,4 +1,4 @@
-use Rattle.transfers.specs.Rule.{transfersRule}
+use Rattle.pages.specs.TransfersRule.{transfersRule}
 use borrow.Author.Needs.{needs}
 use Rattle.transfers.proofs.rule.Statement.{statement}
 use Rattle.transfers.proofs.rule.Tie as tie

@@ -3,14 +3,14 @@ use Prim.Native.Nat.{ℕ, _+_, _*_}
 use Rattle.registers.specs.Registers.{wrappedSum, wrappedDifference, reversedSum, reversedDifference}
 use Rattle.machine.specs.declared.Machine.{Machine}
 use Rattle.machine.specs.Cells.{withArp, withArb, register, withRegister}
-use Rattle.instructions.specs.declared.Modification.{Modification}
-use Rattle.instructions.specs.declared.Modification.the-variants.{None, Minus, Plus, MinusReversed, MinusIndex, PlusIndex, PlusReversed}
-use Rattle.instructions.specs.declared.NextArp.{NextArp}
-use Rattle.instructions.specs.declared.NextArp.the-variants.{Same, To}
-use Rattle.instructions.specs.declared.Indirect.{Indirect}
-use Rattle.instructions.specs.declared.Address.the-variants as Mode
-use Rattle.traits.specs.declared.Operand.{Operand}
-use Rattle.traits.specs.declared.Operand.the-variants.{Nothing, At}
+use Rattle.dma.specs.declared.Modification.{Modification}
+use Rattle.dma.specs.declared.Modification.the-variants.{None, Minus, Plus, MinusReversed, MinusIndex, PlusIndex, PlusReversed}
+use Rattle.dma.specs.declared.NextArp.{NextArp}
+use Rattle.dma.specs.declared.NextArp.the-variants.{Same, To}
+use Rattle.dma.specs.declared.Indirect.{Indirect}
+use Rattle.dma.specs.declared.Address.the-variants as Mode
+use Rattle.pages.specs.declared.Operand.{Operand}
+use Rattle.pages.specs.declared.Operand.the-variants.{Nothing, At}
 
 -- the register that ARP points at, with AR0 as the index
 unfoldable pub moved : Modification → ℕ → ℕ → ℕ

@@ -2,9 +2,9 @@
 -- addressed data word, whether it reads a table word, and its port.
 use mathlib.Core.Bool.{true, false}
 use Prim.Native.Nat.{ℕ}
-use Rattle.instructions.specs.declared.Indirect.{Indirect}
-use Rattle.instructions.specs.declared.Address.{Address}
-use Rattle.instructions.specs.declared.Address.the-variants as Mode
+use Rattle.dma.specs.declared.Indirect.{Indirect}
+use Rattle.dma.specs.declared.Address.{Address}
+use Rattle.dma.specs.declared.Address.the-variants as Mode
 use Rattle.instructions.specs.declared.Instruction.{Instruction}
 use Rattle.instructions.specs.declared.Instruction.the-variants as Family
 use Rattle.instructions.specs.declared.Accumulator.{Accumulator}
@@ -19,11 +19,11 @@ use Rattle.instructions.specs.declared.Transfers.{Transfers}
 use Rattle.instructions.specs.declared.Transfers.the-variants as Transfers
 use Rattle.instructions.specs.declared.Modes.{Modes}
 use Rattle.instructions.specs.declared.Modes.the-variants as Modes
-use Rattle.traits.specs.declared.Operand.{Operand}
-use Rattle.traits.specs.declared.Operand.the-variants as Operand
-use Rattle.traits.specs.declared.Access.the-variants as Access
-use Rattle.traits.specs.declared.Port.the-variants as Port
-use Rattle.traits.specs.declared.Traits.{Traits}
+use Rattle.pages.specs.declared.Operand.{Operand}
+use Rattle.pages.specs.declared.Operand.the-variants as Operand
+use Rattle.pages.specs.declared.Access.the-variants as Access
+use Rattle.pages.specs.declared.Port.the-variants as Port
+use Rattle.pages.specs.declared.Traits.{Traits}
 
 -- no operand, one word, "Repeat Execution" has cycles
 abbrev pub plain : Traits

@@ -10,39 +10,39 @@ use Rattle.instructions.specs.declared.Instruction.{Instruction}
 use Rattle.instructions.specs.declared.Instruction.the-variants as Family
 use Rattle.instructions.specs.declared.Accumulator.{Accumulator}
 use Rattle.instructions.specs.declared.Accumulator.the-variants as Accumulator
-use Rattle.accumulator.specs.Rule.{accumulatorRule}
+use Rattle.pages.specs.AccumulatorRule.{accumulatorRule}
 use Rattle.instructions.specs.declared.Multiplier.{Multiplier}
 use Rattle.instructions.specs.declared.Multiplier.the-variants as Multiplier
-use Rattle.multiplier.specs.Rule.{multiplierRule}
+use Rattle.pages.specs.MultiplierRule.{multiplierRule}
 use Rattle.instructions.specs.declared.Auxiliary.{Auxiliary}
 use Rattle.instructions.specs.declared.Auxiliary.the-variants as Auxiliary
-use Rattle.auxiliary.specs.Rule.{auxiliaryRule}
+use Rattle.pages.specs.AuxiliaryRule.{auxiliaryRule}
 use Rattle.instructions.specs.declared.Modes.{Modes}
 use Rattle.instructions.specs.declared.Modes.the-variants as Modes
-use Rattle.modes.specs.Rule.{modesRule}
+use Rattle.pages.specs.ModesRule.{modesRule}
 use Rattle.instructions.specs.declared.Branches.{Branches}
 use Rattle.instructions.specs.declared.Branches.the-variants as Branches
-use Rattle.branches.specs.Pages.{branched, B, BANZ, BZ, BNZ, BGZ, BGEZ, BLZ, BLEZ, BV, BNV, CALL, RET}
-use Rattle.branches.specs.Rule.{branchesRule}
+use Rattle.pages.specs.BranchesPages.{branched, B, BANZ, BZ, BNZ, BGZ, BGEZ, BLZ, BLEZ, BV, BNV, CALL, RET}
+use Rattle.pages.specs.BranchesRule.{branchesRule}
 use Rattle.instructions.specs.declared.Transfers.{Transfers}
 use Rattle.instructions.specs.declared.Transfers.the-variants as Transfers
-use Rattle.transfers.specs.Pages.{DMOV, IN, OUT}
-use Rattle.transfers.specs.Rule.{transfersRule}
+use Rattle.pages.specs.TransfersPages.{DMOV, IN, OUT}
+use Rattle.pages.specs.TransfersRule.{transfersRule}
 use Rattle.passes.specs.declared.Store.{Store}
 use Rattle.passes.specs.declared.Store.the-variants as Left
-use Rattle.traits.specs.declared.Access.{Access}
-use Rattle.traits.specs.declared.Traits.{Traits}
-use Rattle.traits.specs.Pages.{accumulatorTraits, multiplierTraits, auxiliaryTraits, branchesTraits, transfersTraits, modesTraits, traitsOf}
-use Rattle.rules.specs.declared.Words.{Words}
-use Rattle.rules.specs.Rules.{ruleOf}
-use Rattle.addressing.specs.Addressing.{addressOf}
+use Rattle.pages.specs.declared.Access.{Access}
+use Rattle.pages.specs.declared.Traits.{Traits}
+use Rattle.pages.specs.Traits.{accumulatorTraits, multiplierTraits, auxiliaryTraits, branchesTraits, transfersTraits, modesTraits, traitsOf}
+use Rattle.pages.specs.declared.Words.{Words}
+use Rattle.pages.specs.Rules.{ruleOf}
+use Rattle.pages.specs.Addressing.{addressOf}
 use Rattle.regions.specs.Regions.{dataPresent, moveAllowed}
 use Rattle.regions.specs.RegionLaws.{present-below, moves}
 use Rattle.stores.specs.declared.Write.{Write}
 use Rattle.stores.specs.declared.Write.the-variants as Write
-use Rattle.refusals.specs.Refusals.{accesses, dataAbsent}
+use Rattle.steps.specs.Refusals.{accesses, dataAbsent}
 use Rattle.stores.specs.Stores.{writeOf}
-use Rattle.plans.specs.Pass.{effectOf, passedWrite}
+use Rattle.steps.specs.Pass.{effectOf, passedWrite}
 
 -- a word is stored only where the page accesses its operand
 abbrev pub StoreFits : Access → Store → Type 0

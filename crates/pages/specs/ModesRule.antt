@@ -5,7 +5,7 @@ use Rattle.instructions.specs.declared.Modes.{Modes}
 use Rattle.instructions.specs.declared.Modes.the-variants.{Sovm, Rovm, Ssxm, Rsxm, Cnfd, Cnfp, Rpt, Rptk, Push, Pop}
 use Rattle.passes.specs.declared.Effect.{Effect}
 use Rattle.passes.specs.Passes.{kept}
-use Rattle.modes.specs.Pages.{SOVM, ROVM, SSXM, RSXM, CNFD, CNFP, RPT, RPTK, PUSH, POP}
+use Rattle.pages.specs.ModesPages.{SOVM, ROVM, SSXM, RSXM, CNFD, CNFP, RPT, RPTK, PUSH, POP}
 
 unfoldable pub modesRule : Modes → Machine → ℕ → Effect
 modesRule Sovm m w = kept (SOVM m)

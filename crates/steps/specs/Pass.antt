@@ -8,23 +8,23 @@ use Rattle.answers.specs.declared.Answer.{Answer}
 use Rattle.answers.specs.declared.Answer.the-variants.{Done}
 use Rattle.answers.specs.Numbers.{isDone}
 use Rattle.instructions.specs.declared.Instruction.{Instruction}
-use Rattle.traits.specs.declared.Access.{Access}
-use Rattle.traits.specs.declared.Access.the-variants as Access
-use Rattle.traits.specs.declared.Traits.{Traits}
-use Rattle.traits.specs.Pages.{traitsOf}
+use Rattle.pages.specs.declared.Access.{Access}
+use Rattle.pages.specs.declared.Access.the-variants as Access
+use Rattle.pages.specs.declared.Traits.{Traits}
+use Rattle.pages.specs.Traits.{traitsOf}
 use Rattle.passes.specs.declared.Effect.{Effect}
 use Rattle.passes.specs.Passes.{followed}
-use Rattle.addressing.specs.Addressing.{addressed, addressOf}
-use Rattle.multiplier.specs.Pages.{tableAddress}
-use Rattle.rules.specs.declared.Words.{Words}
-use Rattle.rules.specs.Rules.{ruleOf}
+use Rattle.pages.specs.Addressing.{addressed, addressOf}
+use Rattle.pages.specs.MultiplierPages.{tableAddress}
+use Rattle.pages.specs.declared.Words.{Words}
+use Rattle.pages.specs.Rules.{ruleOf}
 use Rattle.slices.specs.Slices.{portSpent}
 use Rattle.windows.specs.Windows.{programWord}
-use Rattle.refusals.specs.Refusals.{passRefusal}
+use Rattle.steps.specs.Refusals.{passRefusal}
 use Rattle.stores.specs.Stores.{writeOf}
 use Rattle.stores.specs.declared.Write.{Write}
 use Rattle.stores.specs.declared.Write.the-variants.{Nothing}
-use Rattle.plans.specs.declared.Plan.{Plan}
+use Rattle.steps.specs.declared.Plan.{Plan}
 
 -- ---- what a pass reads and does
 

@@ -3,13 +3,13 @@ use Rattle.machine.specs.declared.Machine.{Machine}
 use Rattle.instructions.specs.declared.Instruction.{Instruction}
 use Rattle.instructions.specs.declared.Instruction.the-variants.{Accumulator, Multiplier, Auxiliary, Branches, Transfers, Modes}
 use Rattle.passes.specs.declared.Effect.{Effect}
-use Rattle.accumulator.specs.Rule.{accumulatorRule}
-use Rattle.multiplier.specs.Rule.{multiplierRule}
-use Rattle.auxiliary.specs.Rule.{auxiliaryRule}
-use Rattle.branches.specs.Rule.{branchesRule}
-use Rattle.transfers.specs.Rule.{transfersRule}
-use Rattle.modes.specs.Rule.{modesRule}
-use Rattle.rules.specs.declared.Words.{Words}
+use Rattle.pages.specs.AccumulatorRule.{accumulatorRule}
+use Rattle.pages.specs.MultiplierRule.{multiplierRule}
+use Rattle.pages.specs.AuxiliaryRule.{auxiliaryRule}
+use Rattle.pages.specs.BranchesRule.{branchesRule}
+use Rattle.pages.specs.TransfersRule.{transfersRule}
+use Rattle.pages.specs.ModesRule.{modesRule}
+use Rattle.pages.specs.declared.Words.{Words}
 
 -- `before` is the machine before the operand's modification and m the machine after it
 unfoldable pub ruleOf : Instruction → Machine → Machine → Words → Effect

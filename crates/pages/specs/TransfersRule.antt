@@ -5,7 +5,7 @@ use Rattle.machine.specs.declared.Machine.{Machine}
 use Rattle.instructions.specs.declared.Transfers.{Transfers}
 use Rattle.instructions.specs.declared.Transfers.the-variants.{Dmov, In, Out}
 use Rattle.passes.specs.declared.Effect.{Effect}
-use Rattle.transfers.specs.Pages.{DMOV, IN, OUT}
+use Rattle.pages.specs.TransfersPages.{DMOV, IN, OUT}
 
 unfoldable pub transfersRule : Transfers → Machine → ℕ → Bool → ℕ → Effect
 transfersRule (Dmov operand) m w dry next = DMOV w m

@@ -5,7 +5,7 @@ use Rattle.instructions.specs.declared.Auxiliary.{Auxiliary}
 use Rattle.instructions.specs.declared.Auxiliary.the-variants.{Lar, Sar, Lark, Mar, Adrk, Sbrk, Ldp, Ldpk}
 use Rattle.passes.specs.declared.Effect.{Effect}
 use Rattle.passes.specs.Passes.{kept, stored}
-use Rattle.auxiliary.specs.Pages.{LAR, SAR, LARK, MAR, ADRK, SBRK, LDP, LDPK}
+use Rattle.pages.specs.AuxiliaryPages.{LAR, SAR, LARK, MAR, ADRK, SBRK, LDP, LDPK}
 
 unfoldable pub auxiliaryRule : Auxiliary → Machine → Machine → ℕ → Effect
 auxiliaryRule (Lar r operand) before m w = kept (LAR r w m)

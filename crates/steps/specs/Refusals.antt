@@ -6,15 +6,15 @@ use lib.Dec.{ltb, eqb}
 use Rattle.machine.specs.declared.Machine.{Machine}
 use Rattle.answers.specs.declared.Answer.{Answer}
 use Rattle.answers.specs.declared.Answer.the-variants.{ProgramAbsent, WrongPort, AddressAbove, DataAbsent, OutputFull}
-use Rattle.traits.specs.declared.Access.{Access}
-use Rattle.traits.specs.declared.Access.the-variants as Access
-use Rattle.traits.specs.declared.Port.{Port}
-use Rattle.traits.specs.declared.Port.the-variants as Port
-use Rattle.traits.specs.declared.Traits.{Traits}
-use Rattle.multiplier.specs.Pages.{tableAddress}
+use Rattle.pages.specs.declared.Access.{Access}
+use Rattle.pages.specs.declared.Access.the-variants as Access
+use Rattle.pages.specs.declared.Port.{Port}
+use Rattle.pages.specs.declared.Port.the-variants as Port
+use Rattle.pages.specs.declared.Traits.{Traits}
+use Rattle.pages.specs.MultiplierPages.{tableAddress}
 use Rattle.regions.specs.Regions.{dataPresent, programPresent}
 use Rattle.slices.specs.Slices.{portSpent}
-use Rattle.refusals.specs.Rows.{row, firstGiven}
+use Rattle.steps.specs.Rows.{row, firstGiven}
 
 -- the addressed data word is read or written
 unfoldable pub accesses : Access → Bool

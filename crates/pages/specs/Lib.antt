@@ -1,0 +1,15 @@
+pub mod Traits
+pub mod Addressing
+pub mod AccumulatorPages
+pub mod AccumulatorRule
+pub mod MultiplierPages
+pub mod MultiplierRule
+pub mod AuxiliaryPages
+pub mod AuxiliaryRule
+pub mod BranchesPages
+pub mod BranchesRule
+pub mod TransfersPages
+pub mod TransfersRule
+pub mod ModesPages
+pub mod ModesRule
+pub mod Rules
