@@ -6,25 +6,14 @@ use instructions::Instruction;
 use machine::Machine;
 use plans::plan_pass;
 use plans::program_word;
+use refusals::refuse;
 use steps::Plan;
-use stores::Write;
 use traits::traits_of;
 ghost use mathlib.Core.Path.{_≡_};
 ghost use mathlib.Core.Bool.{cond};
 ghost use Rattle.windows.specs.Windows.{programWord};
-ghost use Rattle.steps.specs.Pass.{refused};
 ghost use Rattle.steps.specs.Stages.{instructionPlan, decodedPlan};
 ghost use Rattle.fetching.specs.ByTable.{fetchPlanBy};
-
-fn refuse(m: Machine, answer: Answer) -> Plan
-    ensures { λ r. ⌜ r ≡ refused m answer ⌝ }
-{
-    Plan {
-        m,
-        answer,
-        write: Write::Nothing,
-    }
-}
 
 // The second word where the instruction has two, else 0.
 fn second_word<'a>(two: bool, cnf: u8, at: u16, rom: &'a [u16], data: &'a [u16]) -> u16

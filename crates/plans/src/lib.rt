@@ -11,15 +11,15 @@ use pages::Traits;
 use pages::Words;
 use passes::follow;
 use refusals::pass_refusal;
+use refusals::refuse;
 use rules::rule;
 use steps::Plan;
-use stores::Write;
 use stores::write_of;
 ghost use mathlib.Core.Path.{_≡_};
 ghost use lib.ListN.{getD};
 ghost use Rattle.pages.specs.Addressing.{addressOf};
 ghost use Rattle.windows.specs.Windows.{programWord};
-ghost use Rattle.steps.specs.Pass.{readWord, wordsRead, refused, performed, passPlan};
+ghost use Rattle.steps.specs.Pass.{readWord, wordsRead, performed, passPlan};
 
 fn word_at(data: &[u16], address: u32) -> u16
     ensures { λ r. ⌜ r ≡ getD (now («data» .entry)) address 0 ⌝ }
@@ -81,16 +81,6 @@ fn words_read<'a>(
         at,
         next,
         dry,
-    }
-}
-
-fn refuse(m: Machine, answer: Answer) -> Plan
-    ensures { λ r. ⌜ r ≡ refused m answer ⌝ }
-{
-    Plan {
-        m,
-        answer,
-        write: Write::Nothing,
     }
 }
 

@@ -1,14 +1,28 @@
-// What refuses a pass of a decoded instruction: the last rows of the order of the answers.
+// The plan of a refused step, and what refuses a pass of a decoded instruction: the last rows of the order of the answers.
 use answers::Answer;
 use machine::Machine;
 use multiplier::table_address;
 use pages::Access;
 use pages::Port;
 use pages::Traits;
+use steps::Plan;
+use stores::Write;
 ghost use mathlib.Core.Path.{_≡_};
 ghost use mathlib.Core.Bool.{not, _&&_};
 ghost use Rattle.regions.specs.Regions.{dataPresent, programPresent};
+ghost use Rattle.steps.specs.Pass.{refused};
 ghost use Rattle.steps.specs.Refusals.{accesses, wrongPort, sends, passRefusal};
+
+// A refused step leaves the machine as it is and stores nothing.
+pub fn refuse(m: Machine, answer: Answer) -> Plan
+    ensures { λ r. ⌜ r ≡ refused m answer ⌝ }
+{
+    Plan {
+        m,
+        answer,
+        write: Write::Nothing,
+    }
+}
 
 fn is_accessed(access: Access) -> bool
     ensures { λ r. ⌜ r ≡ accesses access ⌝ }

@@ -1,6 +1,7 @@
 -- One possible result of each exported function: a pass, a step and a run.
 use Rattle.stores.proofs.write_of.Reads as WriteOf
 use Rattle.refusals.proofs.pass_refusal.Reads as PassRefusal
+use Rattle.refusals.proofs.refuse.Reads as Refuse
 use Rattle.plans.proofs.program_word.Reads as ProgramWord
 use Rattle.plans.proofs.plan_pass.Reads as PlanPass
 use Rattle.fetching.proofs.plan_fetched.Reads as PlanFetched
@@ -14,6 +15,9 @@ use Rattle.results.specs.One.{OneOutcome, OneResult, same}
 
 pub write-of : OneResult WriteOf.Post
 write-of κs a r r′ e e′ p q = same p q
+
+pub refuse : OneResult Refuse.Post
+refuse κs a r r′ e e′ p q = same p q
 
 pub pass-refusal : OneResult PassRefusal.Post
 pass-refusal κs a r r′ e e′ p q = same p q
