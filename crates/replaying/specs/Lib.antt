@@ -1,5 +1,3 @@
--- definitions
-pub mod Replay
 -- words of the laws
 pub mod Facts
 -- laws

@@ -22,7 +22,7 @@ use Rattle.emulator.specs.Outcomes.{ran}
 use Rattle.steps.specs.Step.{runOf}
 use Rattle.fields.specs.Placing.{lineIn, lengthIn}
 use Rattle.line.specs.Lines.{lineOf, refusedLine}
-use Rattle.replaying.specs.Replay.{startOf, replayRun, runLine, replayLine}
+use Rattle.replay_line.specs.Replay.{startOf, replayRun, runLine, replayLine}
 use Rattle.replaying.specs.Facts.{FreshSlices}
 
 -- what was put down of a line, where the line has another name

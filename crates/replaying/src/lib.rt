@@ -4,7 +4,7 @@ ghost use mathlib.Core.Bool.{true};
 ghost use Rattle.answers.specs.Numbers.{isDone};
 ghost use Rattle.runfile.specs.Files.{readAnswer, readContents};
 ghost use Rattle.fields.specs.Placing.{lineIn, lengthIn};
-ghost use Rattle.replaying.specs.Replay.{replayLine};
+ghost use Rattle.replay_line.specs.Replay.{replayLine};
 ghost use Rattle.replaying.specs.Facts.{FreshSlices};
 use emulator::run;
 use line::refused_line;

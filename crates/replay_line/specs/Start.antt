@@ -9,7 +9,7 @@ use Rattle.setting_up.specs.SetUp.{memoryWith, loaded}
 use Rattle.setting_up.specs.MemoryLaws.{memory-length}
 use Rattle.ranges.specs.Ranges.{WordsFit, WorldInRange}
 use Rattle.ranges.specs.Runs.{start-in-range}
-use Rattle.replaying.specs.Replay.{startOf}
+use Rattle.replay_line.specs.Replay.{startOf}
 
 words-fit : (words : List ℕ) → Below 65536 words → WordsFit words
 words-fit [] b = tt

@@ -1,4 +1,5 @@
 -- definitions
+pub mod Replay
 pub mod Longest
 -- proofs
 pub mod Digits

@@ -27,10 +27,10 @@ use Rattle.fields.specs.Placing.{lineIn, lengthIn}
 use Rattle.fields.specs.PlacingLaws.{line-length, number-length}
 use Rattle.line.specs.Lines.{refusedLine, parted}
 use Rattle.line.specs.LineLaws.{line-of}
-use Rattle.replaying.specs.Replay.{startOf, replayRun, runLine, replayLine}
-use Rattle.longest_line.specs.Longest.{longestLine, LineWithin, LineWhole}
-use Rattle.longest_line.specs.Digits.{one-digit, two-digits, five-digits, number-below}
-use Rattle.longest_line.specs.Start.{replay-starts}
+use Rattle.replay_line.specs.Replay.{startOf, replayRun, runLine, replayLine}
+use Rattle.replay_line.specs.Longest.{longestLine, LineWithin, LineWhole}
+use Rattle.replay_line.specs.Digits.{one-digit, two-digits, five-digits, number-below}
+use Rattle.replay_line.specs.Start.{replay-starts}
 
 -- a run does no more steps than its budget
 steps-most : (rom input : List ℕ) (budget : ℕ) (w : World) → runOf rom input budget w .steps ≤ budget
