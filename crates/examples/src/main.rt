@@ -17,15 +17,23 @@ fn show(name: &[u8]) {
     libc::close(fd);
 }
 
-fn main() {
+// Document 01's own file, and stacks of 127 and 128 frames with holding and without.
+fn show_stacks() {
     show(b"first");
     show(b"frames-127-held");
     show(b"frames-127-free");
     show(b"frames-128-held");
     show(b"frames-128-free");
+}
+
+fn show_programs() {
     show(b"convolution");
     show(b"division");
     show(b"copy");
+}
+
+// One for each refusal of a step that a file can reach.
+fn show_refused_steps() {
     show(b"refused-3");
     show(b"refused-4");
     show(b"refused-5");
@@ -33,8 +41,18 @@ fn main() {
     show(b"refused-7");
     show(b"refused-9");
     show(b"refused-10");
+}
+
+fn show_refused_files() {
     show(b"refused-20");
     show(b"refused-21");
     show(b"refused-22");
     show(b"refused-22-long");
+}
+
+fn main() {
+    show_stacks();
+    show_programs();
+    show_refused_steps();
+    show_refused_files();
 }
