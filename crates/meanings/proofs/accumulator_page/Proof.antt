@@ -10,35 +10,17 @@ use borrow.Author.Needs.{needs}
 use Rattle.meanings.proofs.accumulator_page.Statement.{statement}
 use Rattle.meanings.proofs.accumulator_page.Tie as tie
 
-cast-address-of : tie.Need-cast-address-of
-cast-address-of c = search needs
+cast-low : tie.Need-cast-low
+cast-low c = search needs
+
+cast-shift : tie.Need-cast-shift
+cast-shift c = search needs
+
+cast-stored-shift : tie.Need-cast-stored-shift
+cast-stored-shift c = search needs
 
 address-of-requires : tie.Need-address-of-requires
 address-of-requires c κs = search needs
-
-cast-t9 : tie.Need-cast-t9
-cast-t9 c = search needs
-
-cast-t12 : tie.Need-cast-t12
-cast-t12 c = search needs
-
-cast-t15 : tie.Need-cast-t15
-cast-t15 c = search needs
-
-cast-t18 : tie.Need-cast-t18
-cast-t18 c = search needs
-
-cast-t21 : tie.Need-cast-t21
-cast-t21 c = search needs
-
-cast-t23 : tie.Need-cast-t23
-cast-t23 c = search needs
-
-cast-t25 : tie.Need-cast-t25
-cast-t25 c = search needs
-
-cast-t27 : tie.Need-cast-t27
-cast-t27 c = search needs
 
 returns : tie.Need-returns
 returns c = rw (c .match .keys1) (page-means 0 _ _ (ap (λ (a : Address). accumulator (Add (c .before .before .args .w / 256 % 16) a)) (c .before .address-of .ensures)))
@@ -113,16 +95,10 @@ pub accumulator-page-spec : {M : Type 1} → statement M
 accumulator-page-spec =
     tie.close
     (tie.spec
-    cast-address-of
+    cast-low
+    cast-shift
+    cast-stored-shift
     address-of-requires
-    cast-t9
-    cast-t12
-    cast-t15
-    cast-t18
-    cast-t21
-    cast-t23
-    cast-t25
-    cast-t27
     returns
     returns-2
     returns-3

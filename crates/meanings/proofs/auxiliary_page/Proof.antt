@@ -10,29 +10,14 @@ use borrow.Author.Needs.{needs}
 use Rattle.meanings.proofs.auxiliary_page.Statement.{statement}
 use Rattle.meanings.proofs.auxiliary_page.Tie as tie
 
-cast-address-of : tie.Need-cast-address-of
-cast-address-of c = search needs
+cast-low : tie.Need-cast-low
+cast-low c = search needs
+
+cast-register : tie.Need-cast-register
+cast-register c = search needs
 
 address-of-requires : tie.Need-address-of-requires
 address-of-requires c κs = search needs
-
-cast-t9 : tie.Need-cast-t9
-cast-t9 c = search needs
-
-cast-t12 : tie.Need-cast-t12
-cast-t12 c = search needs
-
-cast-t15 : tie.Need-cast-t15
-cast-t15 c = search needs
-
-cast-t17 : tie.Need-cast-t17
-cast-t17 c = search needs
-
-cast-t19 : tie.Need-cast-t19
-cast-t19 c = search needs
-
-cast-t21 : tie.Need-cast-t21
-cast-t21 c = search needs
 
 returns : tie.Need-returns
 returns c = rw (c .match .keys1) (page-means 42 _ _ (ap (λ (a : Address). auxiliary (Lar (c .before .before .args .w / 256 % 8) a)) (c .before .address-of .ensures)))
@@ -62,14 +47,9 @@ pub auxiliary-page-spec : {M : Type 1} → statement M
 auxiliary-page-spec =
     tie.close
     (tie.spec
-    cast-address-of
+    cast-low
+    cast-register
     address-of-requires
-    cast-t9
-    cast-t12
-    cast-t15
-    cast-t17
-    cast-t19
-    cast-t21
     returns
     returns-2
     returns-3
