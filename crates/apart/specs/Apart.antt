@@ -1,16 +1,17 @@
 -- No two pages have a word in common, but for ZAC, NOP and LARP; and so each page's words decode to what that page makes of them.
-use mathlib.Core.Path.{_≡_, refl, _∙_, ap}
-use mathlib.Core.Bool.{Bool, true, false}
+use mathlib.Core.Path.{_≡_, refl, _∙_, ap, subst}
+use mathlib.Core.Bool.{Bool, true, false, not}
 use mathlib.Core.List.{List, [], _∷_}
 use Prim.Native.Nat.{ℕ, zero, suc, _+_, _/_, _%_, _<_, _≤_}
 use Prim.Native.String.{String}
 use native.Mathlib.Omega.{arith}
 use lib.Dec.{T, leb, leb→le}
-use Rattle.instructions.specs.Every.{both-left, both-right, all, all-at}
-use Rattle.instructions.specs.Encoding.{Row, pick, both, fits, lowFits, has}
+use Rattle.instructions.specs.Every.{both-left, both-right}
+use Rattle.instructions.specs.Encoding.{Row, pick, both, printedAt, fits, modifies, reserved, lowFits, has}
 use Rattle.instructions.specs.Pages.{pages}
 use Rattle.instructions.specs.Decode.{decodeOf}
 use Rattle.instructions.specs.Places.{placeIn, meaningIn, upperIn, pagesOf, first-place}
+use Rattle.kinds.specs.Sieve.{fitting, sieve, sieve-at, atUppers, upper-at}
 use Rattle.apart.specs.Having.{hasAt}
 
 -- Test: of the pages es, those with the low byte stand at 130 or past it, with ZAC, NOP and LARP.
@@ -23,14 +24,44 @@ apart : List (ℕ × String) → ℕ → Bool
 apart [] low = true
 apart (e ∷ es) low = pick (lowFits (e .1) low) (onlyShared es low) (apart es low)
 
+lowerText : (ℕ × String) → String
+lowerText e = e .1
+
 allApart : List (ℕ × String) → Bool
 allApart [] = true
 allApart (e ∷ []) = true
-allApart (e ∷ (f ∷ es)) = all (λ low. apart (e ∷ (f ∷ es)) low) 8 0
+allApart (e ∷ (f ∷ es)) = sieve lowerText (λ low fs. apart fs low) 8 0 (e ∷ (f ∷ es))
 
-tested : T (all (λ u. allApart (pagesOf u)) 8 0)
-unfolding allApart apart onlyShared pagesOf lowFits
+tested : T (atUppers (λ u es. allApart es))
+unfolding allApart apart onlyShared lowerText lowFits
 tested = tt
+
+-- What a low byte's bits are beside: a modification is not the reserved one.
+unreserved : String → ℕ → Bool
+unreserved t low = pick (modifies (printedAt t 6)) (not (reserved low)) true
+
+only-printed : (es : List (ℕ × String)) (low : ℕ) → onlyShared (fitting lowerText 8 low es) low ≡ onlyShared es low
+unfolding onlyShared lowerText lowFits unreserved
+only-printed [] low = refl
+only-printed (e ∷ es) low = go (fits (e .1) 8 low) (unreserved (e .1) low) refl (only-printed es low)
+  where
+    go : (f m : Bool) → both f m ≡ lowFits (e .1) low → onlyShared (fitting lowerText 8 low es) low ≡ onlyShared es low
+        → onlyShared (pick f (e ∷ fitting lowerText 8 low es) (fitting lowerText 8 low es)) low
+        ≡ pick (both f m) (both (leb 130 (e .0)) (onlyShared es low)) (onlyShared es low)
+    go true m q h = rw (q, h)
+    go false m q h = h
+
+apart-printed : (es : List (ℕ × String)) (low : ℕ) → apart (fitting lowerText 8 low es) low ≡ apart es low
+unfolding apart lowerText lowFits unreserved
+apart-printed [] low = refl
+apart-printed (e ∷ es) low =
+    go (fits (e .1) 8 low) (unreserved (e .1) low) refl (only-printed es low) (apart-printed es low)
+  where
+    go : (f m : Bool) → both f m ≡ lowFits (e .1) low → onlyShared (fitting lowerText 8 low es) low ≡ onlyShared es low
+        → apart (fitting lowerText 8 low es) low ≡ apart es low
+        → apart (pick f (e ∷ fitting lowerText 8 low es) (fitting lowerText 8 low es)) low ≡ pick (both f m) (onlyShared es low) (apart es low)
+    go true m q g h = rw (q, g, h)
+    go false m q g h = h
 
 all-apart : (es : List (ℕ × String)) (low : ℕ) → low < 256 → T (allApart es) → T (apart es low)
 unfolding allApart apart onlyShared
@@ -40,7 +71,9 @@ all-apart (e ∷ []) low h t = one (lowFits (e .1) low)
     one : (b : Bool) → T (pick b true true)
     one true = tt
     one false = tt
-all-apart (e ∷ (f ∷ es)) low h t = all-at (λ l. apart (e ∷ (f ∷ es)) l) 8 0 low t (omega arith) (omega arith)
+all-apart (e ∷ (f ∷ es)) low h t =
+    subst (λ (b : Bool). T b) (apart-printed (e ∷ (f ∷ es)) low)
+    (sieve-at lowerText (λ low fs. apart fs low) 8 0 low (e ∷ (f ∷ es)) t (omega arith))
 
 only-left : (l a b : Bool) → T (pick l (both a b) b) → T l → T a
 only-left true a b o h = both-left a b o
@@ -107,7 +140,7 @@ unfolding pagesOf
 own-page p w h l t =
     own-place pages 0 p w
     (all-apart (pagesOf (w / 256)) (w % 256) (omega arith)
-    (all-at (λ u. allApart (pagesOf u)) 8 0 (w / 256) tested (omega arith) (omega arith))) t (omega arith)
+    (upper-at (λ u es. allApart es) tested (w / 256) (omega arith))) t (omega arith)
 
 -- A word of such a page decodes to what that page makes of it.
 pub own-meaning : (p w : ℕ) → w < 65536 → p < 130 → T (hasAt pages p w) → decodeOf w ≡ meaningIn pages p w

@@ -1,275 +1,12 @@
 // The decoder: a table of the 256 upper bytes gives the kind, and the low byte the page.
 ghost use mathlib.Core.Path.{_≡_};
 ghost use lib.ListN.{getD};
-ghost use Rattle.instructions.specs.Encoding.{lowFits};
 ghost use Rattle.instructions.specs.Decode.{decodeOf};
 ghost use Rattle.instructions.specs.Places.{lowerIn};
 ghost use Rattle.kinds.specs.Kinds.{isAddressed, isBranch, placeOfKind, groupOf};
 ghost use Rattle.kinds.specs.Groups.{controlPlace, controls, longPlace};
-ghost use Rattle.kinds.specs.Table.{kindTable};
 ghost use Rattle.decoder.specs.ByTable.{decodeBy};
 use instructions::Decoded;
-
-// The kind of each upper byte: the place of its page in the list of section 4.3's pages (0 to 74 are the base's, 75 to 132 the
-// others), or CONTROL, LONG or LONG + 1 where more than one page has the byte.
-const KINDS: [u8; 256] = [
-    0,
-    0,
-    0,
-    0,
-    0,
-    0,
-    0,
-    0,
-    0,
-    0,
-    0,
-    0,
-    0,
-    0,
-    0,
-    0,
-    1,
-    1,
-    1,
-    1,
-    1,
-    1,
-    1,
-    1,
-    1,
-    1,
-    1,
-    1,
-    1,
-    1,
-    1,
-    1,
-    2,
-    2,
-    2,
-    2,
-    2,
-    2,
-    2,
-    2,
-    2,
-    2,
-    2,
-    2,
-    2,
-    2,
-    2,
-    2,
-    42,
-    42,
-    42,
-    42,
-    42,
-    42,
-    42,
-    42,
-    28,
-    31,
-    29,
-    30,
-    23,
-    24,
-    25,
-    26,
-    8,
-    9,
-    77,
-    75,
-    5,
-    6,
-    79,
-    7,
-    3,
-    4,
-    76,
-    65,
-    12,
-    11,
-    10,
-    78,
-    89,
-    90,
-    45,
-    81,
-    92,
-    44,
-    62,
-    88,
-    85,
-    86,
-    32,
-    27,
-    34,
-    33,
-    97,
-    99,
-    13,
-    13,
-    13,
-    13,
-    13,
-    13,
-    13,
-    13,
-    14,
-    14,
-    14,
-    14,
-    14,
-    14,
-    14,
-    14,
-    43,
-    43,
-    43,
-    43,
-    43,
-    43,
-    43,
-    43,
-    93,
-    94,
-    91,
-    80,
-    35,
-    36,
-    47,
-    48,
-    63,
-    63,
-    63,
-    63,
-    63,
-    63,
-    63,
-    63,
-    63,
-    63,
-    63,
-    63,
-    63,
-    63,
-    63,
-    63,
-    87,
-    87,
-    87,
-    87,
-    87,
-    87,
-    87,
-    87,
-    87,
-    87,
-    87,
-    87,
-    87,
-    87,
-    87,
-    87,
-    37,
-    37,
-    37,
-    37,
-    37,
-    37,
-    37,
-    37,
-    37,
-    37,
-    37,
-    37,
-    37,
-    37,
-    37,
-    37,
-    37,
-    37,
-    37,
-    37,
-    37,
-    37,
-    37,
-    37,
-    37,
-    37,
-    37,
-    37,
-    37,
-    37,
-    37,
-    37,
-    46,
-    46,
-    46,
-    46,
-    46,
-    46,
-    46,
-    46,
-    49,
-    49,
-    15,
-    66,
-    16,
-    17,
-    200,
-    82,
-    201,
-    201,
-    201,
-    201,
-    201,
-    201,
-    201,
-    201,
-    202,
-    202,
-    202,
-    202,
-    202,
-    202,
-    202,
-    202,
-    64,
-    64,
-    64,
-    64,
-    64,
-    64,
-    64,
-    64,
-    64,
-    64,
-    64,
-    64,
-    64,
-    64,
-    64,
-    64,
-    58,
-    54,
-    57,
-    56,
-    55,
-    53,
-    52,
-    59,
-    96,
-    95,
-    98,
-    51,
-    84,
-    83,
-    60,
-    50,
-];
 
 // The pages with the upper byte CEh.
 const CONTROL: u8 = 200;
@@ -345,13 +82,6 @@ const CONTROLS: [u8; 64] = [
     133,
     133,
 ];
-
-// The table, for callers that decode more than one word: made once, it is lent to each `decode_by`.
-pub fn kinds() -> [u8; 256]
-    ensures { λ r. ⌜ r ≡ kindTable ⌝ }
-{
-    KINDS
-}
 
 fn kind_of(kinds: &[u8], upper: u8) -> u8
     ensures { λ r. ⌜ r ≡ getD (now (kinds .entry)) upper 0 ⌝ }
@@ -430,31 +160,18 @@ fn is_branch(kind: u8) -> bool
     }
 }
 
-// A low byte is IDDD DDDD where its modification is not the reserved one.
-fn is_operand(low: u8) -> bool
-    ensures { λ r. ⌜ r ≡ lowFits "IDDD DDDD" low ⌝ }
-{
-    low / 16 != 11
-}
-
-fn is_indirect(low: u8) -> bool
-    ensures { λ r. ⌜ r ≡ lowFits "1DDD DDDD" low ⌝ }
-{
-    (low / 128 % 2 == 1) & (low / 16 != 11)
-}
-
 // The place of the page of a kind and a low byte.
 fn page_of(kind: u8, low: u8) -> u8
     ensures { λ r. ⌜ r ≡ placeOfKind kind low ⌝ }
 {
     if is_addressed(kind) {
-        if is_operand(low) {
+        if word_bytes::is_operand(low) {
             return kind;
         }
         return NO_PAGE;
     }
     if is_branch(kind) {
-        if is_indirect(low) {
+        if word_bytes::is_indirect(low) {
             return kind;
         }
         return NO_PAGE;
@@ -477,6 +194,6 @@ pub fn decode_by(kinds: &[u8], w: u16) -> Decoded
 pub fn decode(w: u16) -> Decoded
     ensures { λ r. ⌜ r ≡ decodeOf w ⌝ }
 {
-    let table = kinds();
+    let table = word_bytes::kinds();
     decode_by(&table, w)
 }

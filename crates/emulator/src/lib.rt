@@ -101,7 +101,7 @@ pub fn run(
             answer: checked,
         };
     }
-    let kinds = decoder::kinds();
+    let kinds = word_bytes::kinds();
     let mut n = m;
     let mut steps: u16 = 0;
     loop {

@@ -1,6 +1,6 @@
 -- The places of the pages of CEh and of the long immediates by their low bytes.
-use mathlib.Core.Path.{_≡_}
-use mathlib.Core.Bool.{Bool, not}
+use mathlib.Core.Path.{_≡_, refl, _∙_}
+use mathlib.Core.Bool.{Bool, true, false, not}
 use mathlib.Core.List.{List, [], _∷_}
 use Prim.Native.Nat.{ℕ, _+_, _/_, _%_, _<_}
 use Prim.Native.String.{String}
@@ -8,9 +8,9 @@ use native.Mathlib.Omega.{arith}
 use lib.Dec.{T, eqb, ltb, leb, eqb→eq}
 use lib.ListN.{getD}
 use borrow.Author.Tests.{ne-eqb}
-use Rattle.instructions.specs.Every.{all, all-at}
-use Rattle.instructions.specs.Encoding.{pick, both, lowFits}
+use Rattle.instructions.specs.Encoding.{pick, both, fits, lowFits, printedAt, modifies, reserved}
 use Rattle.instructions.specs.Places.{lowerIn, pagesOf}
+use Rattle.kinds.specs.Sieve.{fitting, sieve, sieve-at}
 use Rattle.kinds.specs.Kinds.{groupOf}
 
 -- CEh: a list for the low bytes below 64, CMPR and NORM
@@ -24,13 +24,30 @@ controlPlace below low =
 unfoldable pub longPlace : ℕ → ℕ → ℕ
 longPlace least low = pick (ltb low 7) (pick (ltb low least) 133 (123 + low)) 133
 
+-- Test: f is the place of the first of es that has the low byte.
 same : (ℕ → ℕ) → List (ℕ × String) → Bool
-same f es = all (λ low. eqb (f low) (lowerIn 133 es low)) 8 0
+same f es = sieve (λ (e : ℕ × String). e .1) (λ low fs. eqb (f low) (lowerIn 133 fs low)) 8 0 es
+
+-- a page with a low byte prints its bits
+printed-lower : (es : List (ℕ × String)) (low : ℕ) → lowerIn 133 (fitting (λ (e : ℕ × String). e .1) 8 low es) low ≡ lowerIn 133 es low
+unfolding lowFits
+printed-lower [] low = refl
+printed-lower (e ∷ es) low =
+    go (fits (e .1) 8 low) (pick (modifies (printedAt (e .1) 6)) (not (reserved low)) true) refl (printed-lower es low)
+  where
+    go : (f m : Bool) → both f m ≡ lowFits (e .1) low
+        → lowerIn 133 (fitting (λ (e : ℕ × String). e .1) 8 low es) low ≡ lowerIn 133 es low
+        → lowerIn 133 (pick f (e ∷ fitting (λ (e : ℕ × String). e .1) 8 low es) (fitting (λ (e : ℕ × String). e .1) 8 low es)) low
+        ≡ pick (both f m) (e .0) (lowerIn 133 es low)
+    go true m q h = rw (q, h)
+    go false m q h = h
 
 same-at : (f : ℕ → ℕ) (es : List (ℕ × String)) → T (same f es) → (low : ℕ) → low < 256 → f low ≡ lowerIn 133 es low
 unfolding same
 same-at f es t low h =
-    eqb→eq (f low) (lowerIn 133 es low) (all-at (λ l. eqb (f l) (lowerIn 133 es l)) 8 0 low t (omega arith) (omega arith))
+    eqb→eq (f low) _
+    (sieve-at (λ (e : ℕ × String). e .1) (λ low fs. eqb (f low) (lowerIn 133 fs low)) 8 0 low es t (omega arith))
+    ∙ printed-lower es low
 
 -- the places below 64, as the code's table has them
 unfoldable pub controls : List ℕ

@@ -14,6 +14,7 @@ use Rattle.instructions.specs.Encoding.{pick, both, find, lowFits}
 use Rattle.instructions.specs.Pages.{pages}
 use Rattle.instructions.specs.Decode.{decodeOf}
 use Rattle.instructions.specs.Places.{placeIn, meaningAt, upperIn, lowerIn, by-bytes, pagesOf, decode-at-place}
+use Rattle.kinds.specs.Sieve.{atUppers, upper-at}
 
 -- the first place of a list, or 133
 abbrev firstOf : List (ℕ × String) → ℕ
@@ -83,7 +84,7 @@ agreeAt : ℕ → List (ℕ × String) → Bool
 agreeAt u es = agree es (kindAt u (firstOf es))
 
 -- the agreement of kinds and pages, over all upper bytes
-agreed : T (all (λ u. agreeAt u (pagesOf u)) 8 0)
+agreed : T (atUppers agreeAt)
 unfolding agree agreeAt isAddressed isBranch sameAs headed shadowed noneOf groupOf pagesOf kindOf lowFits
 agreed = tt
 
@@ -157,16 +158,16 @@ unfolding kindOf agreeAt pagesOf
 place-of-kind w h =
     sym (by-bytes pages 0 w ∙ zero-add (placeIn pages w))
     ∙ agree-lower (upperIn (w / 256) 0 pages) (kindOf (w / 256)) (w % 256) (omega arith)
-    (all-at (λ u. agreeAt u (pagesOf u)) 8 0 (w / 256) agreed (omega arith) (omega arith))
+    (upper-at agreeAt agreed (w / 256) (omega arith))
 
 pub decode-by-place : (w : ℕ) → w < 65536 → decodeOf w ≡ meaningAt (placeOfKind (kindOf (w / 256)) (w % 256)) w
 decode-by-place w h = decode-at-place w ∙ ap (λ (p : ℕ). meaningAt p w) (place-of-kind w h)
 
 -- Test: each of the 256 entries is its upper byte's kind.
 unfoldable pub rightTable : List ℕ → Bool
-rightTable t = all (λ u. eqb (getD t u 0) (kindOf u)) 8 0
+rightTable t = atUppers (λ u es. eqb (getD t u 0) (kindAt u (firstOf es)))
 
 pub table-right : (t : List ℕ) (u : ℕ) → u < 256 → T (rightTable t) → getD t u 0 ≡ kindOf u
-unfolding rightTable
+unfolding rightTable kindOf
 table-right t u h r =
-    eqb→eq (getD t u 0) (kindOf u) (all-at (λ v. eqb (getD t v 0) (kindOf v)) 8 0 u r (omega arith) (omega arith))
+    eqb→eq (getD t u 0) (kindOf u) (upper-at (λ v es. eqb (getD t v 0) (kindAt v (firstOf es))) r u h)

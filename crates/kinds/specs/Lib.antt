@@ -1,3 +1,4 @@
+pub mod Sieve
 pub mod Kinds
 pub mod Groups
 pub mod Table

@@ -3,7 +3,6 @@ use mathlib.Core.Path.{_≡_}
 use mathlib.Core.List.{List, [], _∷_}
 use Prim.Native.Nat.{ℕ, _<_}
 use lib.ListN.{getD}
-use Rattle.instructions.specs.Places.{pagesOf}
 use Rattle.kinds.specs.Kinds.{kindOf, rightTable, table-right}
 
 -- sixteen upper bytes a row
@@ -28,5 +27,5 @@ kindTable =
     []
 
 pub kinds-right : (upper : ℕ) → upper < 256 → getD kindTable upper 0 ≡ kindOf upper
-unfolding kindTable rightTable kindOf pagesOf
+unfolding kindTable rightTable
 kinds-right upper h = table-right kindTable upper h tt

@@ -69,11 +69,14 @@ fn accumulator_page(page: u8, w: u16) -> Accumulator
     requires { ⌜ page < 23 ⌝ }
     ensures { λ r. ⌜ accumulator r ≡ meaningAt page w ⌝ }
 {
-    let a = address_of((w % 256) as u8);
+    let low = (w % 256) as u8;
+    let shift = (w / 256 % 16) as u8;
+    let stored_shift = (w / 256 % 8) as u8;
+    let a = address_of(low);
     match page {
-        0 => Accumulator::Add((w / 256 % 16) as u8, a),
-        1 => Accumulator::Sub((w / 256 % 16) as u8, a),
-        2 => Accumulator::Lac((w / 256 % 16) as u8, a),
+        0 => Accumulator::Add(shift, a),
+        1 => Accumulator::Sub(shift, a),
+        2 => Accumulator::Lac(shift, a),
         3 => Accumulator::Addh(a),
         4 => Accumulator::Adds(a),
         5 => Accumulator::Subh(a),
@@ -84,11 +87,11 @@ fn accumulator_page(page: u8, w: u16) -> Accumulator
         10 => Accumulator::And(a),
         11 => Accumulator::Or(a),
         12 => Accumulator::Xor(a),
-        13 => Accumulator::Sacl((w / 256 % 8) as u8, a),
-        14 => Accumulator::Sach((w / 256 % 8) as u8, a),
-        15 => Accumulator::Lack((w % 256) as u8),
-        16 => Accumulator::Addk((w % 256) as u8),
-        17 => Accumulator::Subk((w % 256) as u8),
+        13 => Accumulator::Sacl(stored_shift, a),
+        14 => Accumulator::Sach(stored_shift, a),
+        15 => Accumulator::Lack(low),
+        16 => Accumulator::Addk(low),
+        17 => Accumulator::Subk(low),
         18 => Accumulator::Cmpl,
         19 => Accumulator::Neg,
         20 => Accumulator::Abs,
@@ -131,15 +134,17 @@ fn auxiliary_page(page: u8, w: u16) -> Auxiliary
     requires { ⌜ (42 ≤ page) × (page < 50) ⌝ }
     ensures { λ r. ⌜ auxiliary r ≡ meaningAt page w ⌝ }
 {
-    let a = address_of((w % 256) as u8);
+    let low = (w % 256) as u8;
+    let register = (w / 256 % 8) as u8;
+    let a = address_of(low);
     match page {
-        42 => Auxiliary::Lar((w / 256 % 8) as u8, a),
-        43 => Auxiliary::Sar((w / 256 % 8) as u8, a),
+        42 => Auxiliary::Lar(register, a),
+        43 => Auxiliary::Sar(register, a),
         44 => Auxiliary::Mar(a),
         45 => Auxiliary::Ldp(a),
-        46 => Auxiliary::Lark((w / 256 % 8) as u8, (w % 256) as u8),
-        47 => Auxiliary::Adrk((w % 256) as u8),
-        48 => Auxiliary::Sbrk((w % 256) as u8),
+        46 => Auxiliary::Lark(register, low),
+        47 => Auxiliary::Adrk(low),
+        48 => Auxiliary::Sbrk(low),
         _ => Auxiliary::Ldpk(w % 512),
     }
 }

@@ -1,6 +1,8 @@
 -- One possible result of each exported function: decoding.
 use Rattle.meanings.proofs.meaning.Reads as Meaning
-use Rattle.decoder.proofs.kinds.Reads as Kinds
+use Rattle.word_bytes.proofs.kinds.Reads as Kinds
+use Rattle.word_bytes.proofs.is_operand.Reads as IsOperand
+use Rattle.word_bytes.proofs.is_indirect.Reads as IsIndirect
 use Rattle.decoder.proofs.decode_by.Reads as DecodeBy
 use Rattle.decoder.proofs.decode.Reads as Decode
 use Rattle.encoder.proofs.encode.Reads as Encode
@@ -16,6 +18,12 @@ meaning κs a r r′ e e′ p q = same p q
 
 pub kinds : OneResult Kinds.Post
 kinds κs a r r′ e e′ p q = same p q
+
+pub is-operand : OneResult IsOperand.Post
+is-operand κs a r r′ e e′ p q = same p q
+
+pub is-indirect : OneResult IsIndirect.Post
+is-indirect κs a r r′ e e′ p q = same p q
 
 pub decode-by : OneResult DecodeBy.Post
 decode-by κs a r r′ e e′ p q = same p q

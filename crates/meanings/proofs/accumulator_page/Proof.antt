@@ -10,119 +10,95 @@ use borrow.Author.Needs.{needs}
 use Rattle.meanings.proofs.accumulator_page.Statement.{statement}
 use Rattle.meanings.proofs.accumulator_page.Tie as tie
 
-cast-address-of : tie.Need-cast-address-of
-cast-address-of c = search needs
+cast-low : tie.Need-cast-low
+cast-low c = search needs
+
+cast-shift : tie.Need-cast-shift
+cast-shift c = search needs
+
+cast-stored-shift : tie.Need-cast-stored-shift
+cast-stored-shift c = search needs
 
 address-of-requires : tie.Need-address-of-requires
 address-of-requires c κs = search needs
 
-cast-t9 : tie.Need-cast-t9
-cast-t9 c = search needs
-
-cast-t12 : tie.Need-cast-t12
-cast-t12 c = search needs
-
-cast-t15 : tie.Need-cast-t15
-cast-t15 c = search needs
-
-cast-t18 : tie.Need-cast-t18
-cast-t18 c = search needs
-
-cast-t21 : tie.Need-cast-t21
-cast-t21 c = search needs
-
-cast-t23 : tie.Need-cast-t23
-cast-t23 c = search needs
-
-cast-t25 : tie.Need-cast-t25
-cast-t25 c = search needs
-
-cast-t27 : tie.Need-cast-t27
-cast-t27 c = search needs
-
 returns : tie.Need-returns
-returns c = rw (c .match .keys1) (page-means _ _ _ (ap (λ (a : Address). accumulator (Add (c .before .before .args .w / 256 % 16) a)) (c .before .address-of .ensures)))
+returns c = rw (c .match .keys1) (page-means 0 _ _ (ap (λ (a : Address). accumulator (Add (c .before .before .args .w / 256 % 16) a)) (c .before .address-of .ensures)))
 
 returns-2 : tie.Need-returns-2
-returns-2 c = rw (c .match .keys2) (page-means _ _ _ (ap (λ (a : Address). accumulator (Sub (c .before .before .args .w / 256 % 16) a)) (c .before .address-of .ensures)))
+returns-2 c = rw (c .match .keys2) (page-means 1 _ _ (ap (λ (a : Address). accumulator (Sub (c .before .before .args .w / 256 % 16) a)) (c .before .address-of .ensures)))
 
 returns-3 : tie.Need-returns-3
-returns-3 c = rw (c .match .keys3) (page-means _ _ _ (ap (λ (a : Address). accumulator (Lac (c .before .before .args .w / 256 % 16) a)) (c .before .address-of .ensures)))
+returns-3 c = rw (c .match .keys3) (page-means 2 _ _ (ap (λ (a : Address). accumulator (Lac (c .before .before .args .w / 256 % 16) a)) (c .before .address-of .ensures)))
 
 returns-4 : tie.Need-returns-4
-returns-4 c = rw (c .match .keys4) (page-means _ _ _ (ap (λ (a : Address). accumulator (Addh a)) (c .before .address-of .ensures)))
+returns-4 c = rw (c .match .keys4) (page-means 3 _ _ (ap (λ (a : Address). accumulator (Addh a)) (c .before .address-of .ensures)))
 
 returns-5 : tie.Need-returns-5
-returns-5 c = rw (c .match .keys5) (page-means _ _ _ (ap (λ (a : Address). accumulator (Adds a)) (c .before .address-of .ensures)))
+returns-5 c = rw (c .match .keys5) (page-means 4 _ _ (ap (λ (a : Address). accumulator (Adds a)) (c .before .address-of .ensures)))
 
 returns-6 : tie.Need-returns-6
-returns-6 c = rw (c .match .keys6) (page-means _ _ _ (ap (λ (a : Address). accumulator (Subh a)) (c .before .address-of .ensures)))
+returns-6 c = rw (c .match .keys6) (page-means 5 _ _ (ap (λ (a : Address). accumulator (Subh a)) (c .before .address-of .ensures)))
 
 returns-7 : tie.Need-returns-7
-returns-7 c = rw (c .match .keys7) (page-means _ _ _ (ap (λ (a : Address). accumulator (Subs a)) (c .before .address-of .ensures)))
+returns-7 c = rw (c .match .keys7) (page-means 6 _ _ (ap (λ (a : Address). accumulator (Subs a)) (c .before .address-of .ensures)))
 
 returns-8 : tie.Need-returns-8
-returns-8 c = rw (c .match .keys8) (page-means _ _ _ (ap (λ (a : Address). accumulator (Subc a)) (c .before .address-of .ensures)))
+returns-8 c = rw (c .match .keys8) (page-means 7 _ _ (ap (λ (a : Address). accumulator (Subc a)) (c .before .address-of .ensures)))
 
 returns-9 : tie.Need-returns-9
-returns-9 c = rw (c .match .keys9) (page-means _ _ _ (ap (λ (a : Address). accumulator (Zalh a)) (c .before .address-of .ensures)))
+returns-9 c = rw (c .match .keys9) (page-means 8 _ _ (ap (λ (a : Address). accumulator (Zalh a)) (c .before .address-of .ensures)))
 
 returns-10 : tie.Need-returns-10
-returns-10 c = rw (c .match .keys10) (page-means _ _ _ (ap (λ (a : Address). accumulator (Zals a)) (c .before .address-of .ensures)))
+returns-10 c = rw (c .match .keys10) (page-means 9 _ _ (ap (λ (a : Address). accumulator (Zals a)) (c .before .address-of .ensures)))
 
 returns-11 : tie.Need-returns-11
-returns-11 c = rw (c .match .keys11) (page-means _ _ _ (ap (λ (a : Address). accumulator (And a)) (c .before .address-of .ensures)))
+returns-11 c = rw (c .match .keys11) (page-means 10 _ _ (ap (λ (a : Address). accumulator (And a)) (c .before .address-of .ensures)))
 
 returns-12 : tie.Need-returns-12
-returns-12 c = rw (c .match .keys12) (page-means _ _ _ (ap (λ (a : Address). accumulator (Or a)) (c .before .address-of .ensures)))
+returns-12 c = rw (c .match .keys12) (page-means 11 _ _ (ap (λ (a : Address). accumulator (Or a)) (c .before .address-of .ensures)))
 
 returns-13 : tie.Need-returns-13
-returns-13 c = rw (c .match .keys13) (page-means _ _ _ (ap (λ (a : Address). accumulator (Xor a)) (c .before .address-of .ensures)))
+returns-13 c = rw (c .match .keys13) (page-means 12 _ _ (ap (λ (a : Address). accumulator (Xor a)) (c .before .address-of .ensures)))
 
 returns-14 : tie.Need-returns-14
-returns-14 c = rw (c .match .keys14) (page-means _ _ _ (ap (λ (a : Address). accumulator (Sacl (c .before .before .args .w / 256 % 8) a)) (c .before .address-of .ensures)))
+returns-14 c = rw (c .match .keys14) (page-means 13 _ _ (ap (λ (a : Address). accumulator (Sacl (c .before .before .args .w / 256 % 8) a)) (c .before .address-of .ensures)))
 
 returns-15 : tie.Need-returns-15
-returns-15 c = rw (c .match .keys15) (page-means _ _ _ (ap (λ (a : Address). accumulator (Sach (c .before .before .args .w / 256 % 8) a)) (c .before .address-of .ensures)))
+returns-15 c = rw (c .match .keys15) (page-means 14 _ _ (ap (λ (a : Address). accumulator (Sach (c .before .before .args .w / 256 % 8) a)) (c .before .address-of .ensures)))
 
 returns-16 : tie.Need-returns-16
-returns-16 c = rw (c .match .keys16) (page-means _ _ _ (ap (λ (n : ℕ). accumulator (Lack (n % 256))) (sym (div-one (c .before .before .args .w)))))
+returns-16 c = rw (c .match .keys16) (page-means 15 _ _ (ap (λ (n : ℕ). accumulator (Lack (n % 256))) (sym (div-one (c .before .before .args .w)))))
 
 returns-17 : tie.Need-returns-17
-returns-17 c = rw (c .match .keys17) (page-means _ _ _ (ap (λ (n : ℕ). accumulator (Addk (n % 256))) (sym (div-one (c .before .before .args .w)))))
+returns-17 c = rw (c .match .keys17) (page-means 16 _ _ (ap (λ (n : ℕ). accumulator (Addk (n % 256))) (sym (div-one (c .before .before .args .w)))))
 
 returns-18 : tie.Need-returns-18
-returns-18 c = rw (c .match .keys18) (page-means _ _ _ (ap (λ (n : ℕ). accumulator (Subk (n % 256))) (sym (div-one (c .before .before .args .w)))))
+returns-18 c = rw (c .match .keys18) (page-means 17 _ _ (ap (λ (n : ℕ). accumulator (Subk (n % 256))) (sym (div-one (c .before .before .args .w)))))
 
 returns-19 : tie.Need-returns-19
-returns-19 c = rw (c .match .keys19) (page-means _ _ _ refl)
+returns-19 c = rw (c .match .keys19) (page-means 18 _ _ refl)
 
 returns-20 : tie.Need-returns-20
-returns-20 c = rw (c .match .keys20) (page-means _ _ _ refl)
+returns-20 c = rw (c .match .keys20) (page-means 19 _ _ refl)
 
 returns-21 : tie.Need-returns-21
-returns-21 c = rw (c .match .keys21) (page-means _ _ _ refl)
+returns-21 c = rw (c .match .keys21) (page-means 20 _ _ refl)
 
 returns-22 : tie.Need-returns-22
-returns-22 c = rw (c .match .keys22) (page-means _ _ _ refl)
+returns-22 c = rw (c .match .keys22) (page-means 21 _ _ refl)
 
 returns-23 : tie.Need-returns-23
-returns-23 c = rw (last-key 0 22 (c .before .before .args .page) (c .match .rest) (search needs) (search needs)) (page-means _ _ _ refl)
+returns-23 c = rw (last-key 0 22 (c .before .before .args .page) (c .match .rest) (search needs) (search needs)) (page-means 22 _ _ refl)
 
 pub accumulator-page-spec : {M : Type 1} → statement M
 accumulator-page-spec =
     tie.close
     (tie.spec
-    cast-address-of
+    cast-low
+    cast-shift
+    cast-stored-shift
     address-of-requires
-    cast-t9
-    cast-t12
-    cast-t15
-    cast-t18
-    cast-t21
-    cast-t23
-    cast-t25
-    cast-t27
     returns
     returns-2
     returns-3

@@ -10,66 +10,46 @@ use borrow.Author.Needs.{needs}
 use Rattle.meanings.proofs.auxiliary_page.Statement.{statement}
 use Rattle.meanings.proofs.auxiliary_page.Tie as tie
 
-cast-address-of : tie.Need-cast-address-of
-cast-address-of c = search needs
+cast-low : tie.Need-cast-low
+cast-low c = search needs
+
+cast-register : tie.Need-cast-register
+cast-register c = search needs
 
 address-of-requires : tie.Need-address-of-requires
 address-of-requires c κs = search needs
 
-cast-t9 : tie.Need-cast-t9
-cast-t9 c = search needs
-
-cast-t12 : tie.Need-cast-t12
-cast-t12 c = search needs
-
-cast-t15 : tie.Need-cast-t15
-cast-t15 c = search needs
-
-cast-t17 : tie.Need-cast-t17
-cast-t17 c = search needs
-
-cast-t19 : tie.Need-cast-t19
-cast-t19 c = search needs
-
-cast-t21 : tie.Need-cast-t21
-cast-t21 c = search needs
-
 returns : tie.Need-returns
-returns c = rw (c .match .keys1) (page-means _ _ _ (ap (λ (a : Address). auxiliary (Lar (c .before .before .args .w / 256 % 8) a)) (c .before .address-of .ensures)))
+returns c = rw (c .match .keys1) (page-means 42 _ _ (ap (λ (a : Address). auxiliary (Lar (c .before .before .args .w / 256 % 8) a)) (c .before .address-of .ensures)))
 
 returns-2 : tie.Need-returns-2
-returns-2 c = rw (c .match .keys2) (page-means _ _ _ (ap (λ (a : Address). auxiliary (Sar (c .before .before .args .w / 256 % 8) a)) (c .before .address-of .ensures)))
+returns-2 c = rw (c .match .keys2) (page-means 43 _ _ (ap (λ (a : Address). auxiliary (Sar (c .before .before .args .w / 256 % 8) a)) (c .before .address-of .ensures)))
 
 returns-3 : tie.Need-returns-3
-returns-3 c = rw (c .match .keys3) (page-means _ _ _ (ap (λ (a : Address). auxiliary (Mar a)) (c .before .address-of .ensures)))
+returns-3 c = rw (c .match .keys3) (page-means 44 _ _ (ap (λ (a : Address). auxiliary (Mar a)) (c .before .address-of .ensures)))
 
 returns-4 : tie.Need-returns-4
-returns-4 c = rw (c .match .keys4) (page-means _ _ _ (ap (λ (a : Address). auxiliary (Ldp a)) (c .before .address-of .ensures)))
+returns-4 c = rw (c .match .keys4) (page-means 45 _ _ (ap (λ (a : Address). auxiliary (Ldp a)) (c .before .address-of .ensures)))
 
 returns-5 : tie.Need-returns-5
-returns-5 c = rw (c .match .keys5) (page-means _ _ _ (ap (λ (n : ℕ). auxiliary (Lark (c .before .before .args .w / 256 % 8) (n % 256))) (sym (div-one (c .before .before .args .w)))))
+returns-5 c = rw (c .match .keys5) (page-means 46 _ _ (ap (λ (n : ℕ). auxiliary (Lark (c .before .before .args .w / 256 % 8) (n % 256))) (sym (div-one (c .before .before .args .w)))))
 
 returns-6 : tie.Need-returns-6
-returns-6 c = rw (c .match .keys6) (page-means _ _ _ (ap (λ (n : ℕ). auxiliary (Adrk (n % 256))) (sym (div-one (c .before .before .args .w)))))
+returns-6 c = rw (c .match .keys6) (page-means 47 _ _ (ap (λ (n : ℕ). auxiliary (Adrk (n % 256))) (sym (div-one (c .before .before .args .w)))))
 
 returns-7 : tie.Need-returns-7
-returns-7 c = rw (c .match .keys7) (page-means _ _ _ (ap (λ (n : ℕ). auxiliary (Sbrk (n % 256))) (sym (div-one (c .before .before .args .w)))))
+returns-7 c = rw (c .match .keys7) (page-means 48 _ _ (ap (λ (n : ℕ). auxiliary (Sbrk (n % 256))) (sym (div-one (c .before .before .args .w)))))
 
 returns-8 : tie.Need-returns-8
-returns-8 c = rw (last-key 42 7 (c .before .before .args .page) (c .match .rest) (search needs) (search needs)) (page-means _ _ _ (ap (λ (n : ℕ). auxiliary (Ldpk (n % 512))) (sym (div-one (c .before .before .args .w)))))
+returns-8 c = rw (last-key 42 7 (c .before .before .args .page) (c .match .rest) (search needs) (search needs)) (page-means 49 _ _ (ap (λ (n : ℕ). auxiliary (Ldpk (n % 512))) (sym (div-one (c .before .before .args .w)))))
 
 pub auxiliary-page-spec : {M : Type 1} → statement M
 auxiliary-page-spec =
     tie.close
     (tie.spec
-    cast-address-of
+    cast-low
+    cast-register
     address-of-requires
-    cast-t9
-    cast-t12
-    cast-t15
-    cast-t17
-    cast-t19
-    cast-t21
     returns
     returns-2
     returns-3
