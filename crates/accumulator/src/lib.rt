@@ -1,11 +1,11 @@
 // The accumulator's pages, by value.
+use alu::Shifted;
 use instructions::Accumulator;
 use machine::Machine;
-use passes::Effect;
+use pages::Effect;
 use passes::keep;
 use passes::store_word;
 use passes::with_sum;
-use shifts::Shifted;
 use words::logic;
 ghost use mathlib.Core.Path.{_≡_};
 ghost use Rattle.machine.specs.Cells.{withAcc};

@@ -3,7 +3,7 @@ use addressing::register_of;
 use addressing::with_register;
 use instructions::Auxiliary;
 use machine::Machine;
-use passes::Effect;
+use pages::Effect;
 use passes::keep;
 use passes::store_word;
 ghost use mathlib.Core.Path.{_≡_};

@@ -7,9 +7,9 @@ use lib.Dec.{leb, ltb, eqb}
 use lib.IntN.{ℤ, pos, negsuc}
 use lib.Signed.{leZ, ltZ}
 use borrow.Author.Tests.{lt-ltb, le-ltb, le-leb, lt-leb, eq-eqb, ne-eqb}
-use Rattle.words.specs.Whole.{up, dn}
-use Rattle.words.specs.Word.{signed}
-use Rattle.words.specs.WordLaws.{signed-is}
+use Rattle.alu.specs.Whole.{up, dn}
+use Rattle.alu.specs.Word.{signed}
+use Rattle.alu.specs.WordLaws.{signed-is}
 
 -- what is known of the signed reading z of the word a
 record Reads (a : ℕ) (z : ℤ) : Type 0 where

@@ -4,7 +4,7 @@ use instructions::Branches;
 use machine::Machine;
 use machine::pop_on;
 use machine::push_on;
-use passes::Effect;
+use pages::Effect;
 use passes::jump_to;
 use passes::keep;
 ghost use mathlib.Core.Path.{_≡_};

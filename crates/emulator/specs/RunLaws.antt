@@ -10,10 +10,10 @@ use Rattle.answers.specs.declared.Answer.{Answer}
 use Rattle.answers.specs.declared.Answer.the-variants.{Done, CellOutOfRange, SlicesUnfit}
 use Rattle.answers.specs.Numbers.{isDone}
 use Rattle.answers.specs.NumberLaws.{done-is}
-use Rattle.slices.specs.Slices.{slicesFit}
+use Rattle.board.specs.Slices.{slicesFit}
 use Rattle.steps.specs.declared.Plan.{Plan}
 use Rattle.steps.specs.Rows.{row, firstGiven}
-use Rattle.stores.specs.Stores.{dataAfter, outputAfter}
+use Rattle.steps.specs.Stores.{dataAfter, outputAfter}
 use Rattle.steps.specs.Pass.{refused}
 use Rattle.steps.specs.StoreLaws.{WriteFits}
 use Rattle.steps.specs.World.{World, Outcome, RunOutcome}

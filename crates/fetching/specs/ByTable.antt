@@ -5,8 +5,8 @@ use Prim.Native.Nat.{ℕ}
 use Rattle.machine.specs.declared.Machine.{Machine}
 use Rattle.answers.specs.declared.Answer.the-variants.{ProgramAbsent}
 use Rattle.decoder.specs.ByTable.{decodeBy}
-use Rattle.regions.specs.Regions.{programPresent}
-use Rattle.windows.specs.Windows.{programWord}
+use Rattle.board.specs.Regions.{programPresent}
+use Rattle.board.specs.Windows.{programWord}
 use Rattle.steps.specs.declared.Plan.{Plan}
 use Rattle.steps.specs.Pass.{refused}
 use Rattle.steps.specs.Stages.{decodedPlan}

@@ -5,7 +5,7 @@ use Prim.Native.Nat.{ℕ, _<_}
 use Rattle.machine.specs.declared.Machine.{Machine}
 use Rattle.kinds.specs.Table.{kindTable}
 use Rattle.decoder.specs.TableLaws.{decode-by-kinds}
-use Rattle.windows.specs.Windows.{programWord}
+use Rattle.board.specs.Windows.{programWord}
 use Rattle.steps.specs.Table.{decodedAt}
 use Rattle.steps.specs.Stages.{fetchPlan}
 use Rattle.fetching.specs.ByTable.{fetchPlanBy}

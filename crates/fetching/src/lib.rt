@@ -11,7 +11,7 @@ use steps::Plan;
 use traits::traits_of;
 ghost use mathlib.Core.Path.{_≡_};
 ghost use mathlib.Core.Bool.{cond};
-ghost use Rattle.windows.specs.Windows.{programWord};
+ghost use Rattle.board.specs.Windows.{programWord};
 ghost use Rattle.steps.specs.Stages.{instructionPlan, decodedPlan};
 ghost use Rattle.fetching.specs.ByTable.{fetchPlanBy};
 

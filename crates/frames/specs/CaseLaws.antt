@@ -4,10 +4,10 @@ use mathlib.Core.List.{List, [], _∷_}
 use Prim.Native.Nat.{ℕ, zero, suc, _<_}
 use native.Mathlib.Omega.{arith}
 use lib.ListN.{length, getD, replicate}
-use Rattle.words.specs.Whole.{dn}
-use Rattle.words.specs.Word.{signed, low}
-use Rattle.sums.specs.Sums.{holds, held, settled, carry, added}
-use Rattle.products.specs.Products.{product, productWord, scaled, amountOf, shiftedProduct}
+use Rattle.alu.specs.Whole.{dn}
+use Rattle.alu.specs.Word.{signed, low}
+use Rattle.alu.specs.Sums.{holds, held, settled, carry, added}
+use Rattle.alu.specs.Products.{product, productWord, scaled, amountOf, shiftedProduct}
 use Rattle.frames.specs.Frames.{Pair, fromZero, productAdded, accumulated, passed, stacked, exactSum, Every, Words, Least, BothLeast, AllLeast}
 use Rattle.frames.specs.FrameCases.{least, allLeast, firstChanged, lastChanged, allLost, Cases}
 

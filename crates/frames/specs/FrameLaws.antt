@@ -7,8 +7,8 @@ use native.Mathlib.Omega.{arith}
 use native.Mathlib.Decide.{decLe}
 use lib.IntN.{pos, _*ℤ_}
 use lib.ListN.{length}
-use Rattle.words.specs.Whole.{up, minus-is, times-is, le-from}
-use Rattle.words.specs.Word.{signed}
+use Rattle.alu.specs.Whole.{up, minus-is, times-is, le-from}
+use Rattle.alu.specs.Word.{signed}
 use Rattle.frames.specs.Frames.{Pair, fromZero, passed, stacked, exactSum, Bounded, Words, AllLeast}
 use Rattle.frames.specs.PassSums.{floors, from-zero, add-fits, add-over, floors-near, floors-in, floors-top, floors-least}
 

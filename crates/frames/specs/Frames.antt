@@ -4,9 +4,9 @@ use mathlib.Core.List.{List, [], _∷_}
 use Prim.Native.Nat.{ℕ, _*_, _^_, _<_}
 use lib.IntN.{ℤ, pos, negℤ, _+ℤ_, _-ℤ_, _*ℤ_}
 use lib.Signed.{_≤ℤ_}
-use Rattle.words.specs.Word.{signed}
-use Rattle.sums.specs.Sums.{added}
-use Rattle.products.specs.Products.{product, productWord, shiftedProduct}
+use Rattle.alu.specs.Word.{signed}
+use Rattle.alu.specs.Sums.{added}
+use Rattle.alu.specs.Products.{product, productWord, shiftedProduct}
 
 -- the two words that one pass reads, from data memory and from program memory
 pub record Pair : Type 0 where

@@ -6,12 +6,12 @@ use native.Mathlib.Omega.{arith}
 use lib.IntN.{ℤ, pos, negsuc, _+ℤ_, +ℤ-assoc, +ℤ-idr, +ℤ-idl}
 use lib.ListN.{length}
 use lib.Signed.{shrZ}
-use Rattle.words.specs.Whole.{up, dn, part, add-is, floor-le, floor-lt, eq-from, no-up}
-use Rattle.words.specs.Word.{signed}
-use Rattle.sums.specs.Sums.{settled, added}
+use Rattle.alu.specs.Whole.{up, dn, part, add-is, floor-le, floor-lt, eq-from, no-up}
+use Rattle.alu.specs.Word.{signed}
+use Rattle.alu.specs.Sums.{settled, added}
 use Rattle.sums.specs.SumLaws.{holds-in, holds-over}
-use Rattle.words.specs.WordLaws.{signed-low}
-use Rattle.products.specs.Products.{product, shiftedProduct}
+use Rattle.alu.specs.WordLaws.{signed-low}
+use Rattle.alu.specs.Products.{product, shiftedProduct}
 use Rattle.frames.specs.Frames.{Pair, Accumulation, fromZero, productAdded, accumulated, passed, exactSum, Every, Words, Least, BothLeast, AllLeast}
 use Rattle.frames.specs.ProductBounds.{product-in, product-top, productWord-is, productWord-lt, shifted-is}
 

@@ -5,10 +5,10 @@ use native.Mathlib.Omega.{arith, by-contra, both-ways}
 use native.Mathlib.Nat.{mul-le-mul}
 use lib.IntN.{ℤ, pos, negsuc, _*ℤ_}
 use lib.Signed.{shrZ}
-use Rattle.words.specs.Whole.{up, dn, neg-is, one-times}
-use Rattle.words.specs.Word.{signed}
-use Rattle.words.specs.WordLaws.{signed-low, low-lt, Within, within-16, within-32}
-use Rattle.products.specs.Products.{product, productWord, scaled, amountOf, shiftedProduct}
+use Rattle.alu.specs.Whole.{up, dn, neg-is, one-times}
+use Rattle.alu.specs.Word.{signed}
+use Rattle.alu.specs.WordLaws.{signed-low, low-lt, Within, within-16, within-32}
+use Rattle.alu.specs.Products.{product, productWord, scaled, amountOf, shiftedProduct}
 
 -- two factors at most 2 ^ 15
 square : {a b : ℕ} → a ≤ 2 ^ 15 → b ≤ 2 ^ 15 → a * b ≤ 2 ^ 30

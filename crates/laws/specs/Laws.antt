@@ -4,18 +4,18 @@ use mathlib.Core.Bool.{true, false}
 use mathlib.Core.List.{List, [], _∷_, _++_}
 use Prim.Native.Nat.{ℕ, zero, suc, _+_, _≤_, _<_}
 use lib.ListN.{length}
-use Rattle.registers.specs.Registers.{wrappedSum}
+use Rattle.alu.specs.Registers.{wrappedSum}
 use Rattle.machine.specs.Cells.{withPc, withMid, withRptc}
 use Rattle.instructions.specs.declared.Instruction.{Instruction}
 use Rattle.instructions.specs.declared.Decoded.the-variants.{Base}
 use Rattle.pages.specs.Traits.{traitsOf}
-use Rattle.passes.specs.declared.Effect.{Effect}
+use Rattle.pages.specs.declared.Effect.{Effect}
 use Rattle.answers.specs.declared.Answer.{Answer}
 use Rattle.answers.specs.declared.Answer.the-variants.{Done}
 use Rattle.answers.specs.Numbers.{numberOf, isDone}
-use Rattle.stores.specs.declared.Write.{Write}
+use Rattle.steps.specs.declared.Write.{Write}
 use Rattle.steps.specs.Rows.{Row, row}
-use Rattle.stores.specs.Stores.{dataAfter, outputAfter}
+use Rattle.steps.specs.Stores.{dataAfter, outputAfter}
 use Rattle.steps.specs.Pass.{effectOf, passedWrite}
 use Rattle.steps.specs.World.{World, RunOutcome}
 use Rattle.steps.specs.Table.{decodedAt, secondWord, tableFor, checksOf}

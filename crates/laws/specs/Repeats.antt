@@ -7,7 +7,7 @@ use native.Mathlib.Omega.{arith}
 use lib.Dec.{ltb}
 use lib.ListN.{length}
 use borrow.Author.Tests.{lt-ltb, not-false}
-use Rattle.registers.specs.Registers.{wrappedSum}
+use Rattle.alu.specs.Registers.{wrappedSum}
 use Rattle.machine.specs.declared.Machine.{Machine}
 use Rattle.machine.specs.Cells.{withPc, withMid, withRptc}
 use Rattle.machine.specs.Range.{inRange}
@@ -43,9 +43,9 @@ use Rattle.dma.specs.declared.NextArp.{NextArp}
 use Rattle.dma.specs.declared.NextArp.the-variants.{Same, To}
 use Rattle.dma.specs.declared.Indirect.{Indirect}
 use Rattle.dma.specs.declared.Address.the-variants as Mode
-use Rattle.passes.specs.declared.Effect.{Effect}
-use Rattle.passes.specs.declared.Jump.the-variants as Jump
-use Rattle.passes.specs.Passes.{destination, followed}
+use Rattle.pages.specs.declared.Effect.{Effect}
+use Rattle.pages.specs.declared.Jump.the-variants as Jump
+use Rattle.pages.specs.Passes.{destination, followed}
 use Rattle.pages.specs.declared.Operand.{Operand}
 use Rattle.pages.specs.declared.Operand.the-variants as Operand
 use Rattle.pages.specs.declared.Traits.{Traits}
@@ -53,9 +53,9 @@ use Rattle.pages.specs.Traits.{accumulatorTraits, multiplierTraits, auxiliaryTr
 use Rattle.pages.specs.Addressing.{pointed, modified, addressed, addressOf}
 use Rattle.pages.specs.declared.Words.{Words}
 use Rattle.pages.specs.Rules.{ruleOf}
-use Rattle.slices.specs.Slices.{slicesFit}
+use Rattle.board.specs.Slices.{slicesFit}
 use Rattle.steps.specs.Refusals.{addressAbove, dataAbsent, tableAbsent, outputFull}
-use Rattle.stores.specs.Stores.{dataAfter, outputAfter}
+use Rattle.steps.specs.Stores.{dataAfter, outputAfter}
 use Rattle.steps.specs.Pass.{wordsRead, effectOf, passedMachine, passedWrite, performed}
 use Rattle.steps.specs.World.{World}
 use Rattle.steps.specs.Table.{decodedAt, secondAddress, secondWord, notRepeatable, secondAbsent, tableFor}

@@ -16,7 +16,7 @@ use Rattle.instructions.specs.declared.Decoded.the-variants.{Base, Published, N
 use Rattle.pages.specs.Traits.{traitsOf}
 use Rattle.steps.specs.declared.Plan.{Plan}
 use Rattle.steps.specs.Rows.{Row, row, firstGiven}
-use Rattle.stores.specs.Stores.{dataAfter, outputAfter}
+use Rattle.steps.specs.Stores.{dataAfter, outputAfter}
 use Rattle.steps.specs.Pass.{performed, refused}
 use Rattle.steps.specs.World.{World}
 use Rattle.steps.specs.Table.{decodedAt, secondWord, tableFor, refusalOf, checksOf}

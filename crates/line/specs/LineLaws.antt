@@ -5,7 +5,7 @@ use Prim.Native.Nat.{ℕ}
 use Rattle.machine.specs.declared.Machine.{Machine}
 use Rattle.answers.specs.declared.Answer.{Answer}
 use Rattle.answers.specs.Numbers.{numberOf}
-use Rattle.windows.specs.Windows.{wordsSent}
+use Rattle.board.specs.Windows.{wordsSent}
 use Rattle.digits.specs.Digits.{hexadecimal, decimal}
 use Rattle.fields.specs.Placing.{space, newline, lineIn, lengthIn}
 use Rattle.fields.specs.Facts.{wordFields, cellFields, linePut}

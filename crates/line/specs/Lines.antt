@@ -6,7 +6,7 @@ use Rattle.fields.specs.Placing.{space, newline}
 use Rattle.machine.specs.declared.Machine.{Machine}
 use Rattle.answers.specs.declared.Answer.{Answer}
 use Rattle.answers.specs.Numbers.{numberOf}
-use Rattle.windows.specs.Windows.{wordsSent}
+use Rattle.board.specs.Windows.{wordsSent}
 
 -- "parted by one space, .. one newline"
 unfoldable pub parted : List (List ℕ) → List ℕ

@@ -3,7 +3,7 @@ use instructions::Modes;
 use machine::Machine;
 use machine::pop_on;
 use machine::push_on;
-use passes::Effect;
+use pages::Effect;
 use passes::keep;
 use words::bits;
 ghost use mathlib.Core.Path.{_≡_};

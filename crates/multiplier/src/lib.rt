@@ -1,7 +1,7 @@
 // The pages of the T register, the P register and the multiplier, by value.
 use instructions::Multiplier;
 use machine::Machine;
-use passes::Effect;
+use pages::Effect;
 use passes::copy_word;
 use passes::keep;
 use passes::store_word;

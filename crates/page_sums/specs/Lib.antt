@@ -1,4 +1,1 @@
--- definitions
-pub mod PageSums
--- laws
 pub mod PageSumLaws

@@ -6,12 +6,12 @@ use native.Mathlib.Omega.{arith}
 use lib.Dec.{leb, eqb}
 use lib.IntN.{pos, negℤ, _-ℤ_, natAbs}
 use borrow.Author.Tests.{lt-ltb, le-ltb, lt-leb, ne-eqb}
-use Rattle.words.specs.Whole.{part, minus-is, neg-is, abs-is, eq-from}
-use Rattle.words.specs.Word.{signed, low}
-use Rattle.words.specs.WordLaws.{signed-is, low-is}
-use Rattle.sums.specs.Sums.{holds, settled, carry, noBorrow, added, subtracted}
+use Rattle.alu.specs.Whole.{part, minus-is, neg-is, abs-is, eq-from}
+use Rattle.alu.specs.Word.{signed, low}
+use Rattle.alu.specs.WordLaws.{signed-is, low-is}
+use Rattle.alu.specs.Sums.{holds, settled, carry, noBorrow, added, subtracted}
 use Rattle.sums.specs.SumLaws.{holds-in}
-use Rattle.page_sums.specs.PageSums.{inHighHalf, addedHigh, subtractedHigh, aluOutput, subtractedConditionally, negated, absolute}
+use Rattle.alu.specs.PageSums.{inHighHalf, addedHigh, subtractedHigh, aluOutput, subtractedConditionally, negated, absolute}
 
 module _ (acc w ov ovm c : ℕ) where
   pub add-high-sets : added acc (inHighHalf w) ov ovm .c ≡ 1 → added acc (inHighHalf w) ov ovm ≡ addedHigh acc w ov ovm c

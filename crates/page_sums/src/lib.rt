@@ -1,7 +1,7 @@
 // The sums that follow their own pages: ADDH, SUBH, SUBC, NEG and ABS.
-use sums::Sum;
+use alu::Sum;
 ghost use mathlib.Core.Path.{_≡_};
-ghost use Rattle.page_sums.specs.PageSums.{addedHigh, subtractedHigh, subtractedConditionally, negated, absolute, inHighHalf};
+ghost use Rattle.alu.specs.PageSums.{addedHigh, subtractedHigh, subtractedConditionally, negated, absolute, inHighHalf};
 
 // The word as ADDH, SUBH and ZALH take it.
 pub fn in_high_half(w: u16) -> u32

@@ -1,14 +1,14 @@
 -- The accumulator's pages. Each definition is named as its page, and gives the machine after it, or the word that it stores.
 -- The machine is that after the operand's modification, w the data word that was read.
 use Prim.Native.Nat.{ℕ}
-use Rattle.sums.specs.Sums.{added, subtracted}
-use Rattle.page_sums.specs.PageSums.{addedHigh, subtractedHigh, subtractedConditionally, negated, absolute, inHighHalf}
-use Rattle.shifts.specs.Shifts.{operand, unsignedOperand, storedLow, storedHigh, leftByOne, rightByOne}
-use Rattle.words.specs.Logic.{anded, ored, xored, complemented}
-use Rattle.shifts.specs.declared.Shifted.{Shifted}
+use Rattle.alu.specs.Sums.{added, subtracted}
+use Rattle.alu.specs.PageSums.{addedHigh, subtractedHigh, subtractedConditionally, negated, absolute, inHighHalf}
+use Rattle.alu.specs.Shifts.{operand, unsignedOperand, storedLow, storedHigh, leftByOne, rightByOne}
+use Rattle.alu.specs.Logic.{anded, ored, xored, complemented}
+use Rattle.alu.specs.declared.Shifted.{Shifted}
 use Rattle.machine.specs.declared.Machine.{Machine}
 use Rattle.machine.specs.Cells.{withAcc, withC}
-use Rattle.passes.specs.Passes.{withSum}
+use Rattle.pages.specs.Passes.{withSum}
 
 -- "(ACC) + [(dma) x 2^shift] -> ACC. Affects OV; affected by OVM and SXM. Affects C"
 unfoldable pub ADD : ℕ → ℕ → Machine → Machine

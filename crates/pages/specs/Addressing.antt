@@ -1,6 +1,6 @@
 -- Operands: their addresses and their modifications (document 01, "Direct operand" and "Indirect").
 use Prim.Native.Nat.{ℕ, _+_, _*_}
-use Rattle.registers.specs.Registers.{wrappedSum, wrappedDifference, reversedSum, reversedDifference}
+use Rattle.alu.specs.Registers.{wrappedSum, wrappedDifference, reversedSum, reversedDifference}
 use Rattle.machine.specs.declared.Machine.{Machine}
 use Rattle.machine.specs.Cells.{withArp, withArb, register, withRegister}
 use Rattle.dma.specs.declared.Modification.{Modification}

@@ -1,7 +1,7 @@
 -- The pages of the auxiliary registers and the data page pointer. `before` is the machine before the operand's modification and m the machine after it;
 -- w is the data word that was read.
 use Prim.Native.Nat.{ℕ, _%_, _^_}
-use Rattle.registers.specs.Registers.{wrappedSum, wrappedDifference}
+use Rattle.alu.specs.Registers.{wrappedSum, wrappedDifference}
 use Rattle.machine.specs.declared.Machine.{Machine}
 use Rattle.machine.specs.Cells.{withDp, register, withRegister}
 

@@ -3,8 +3,8 @@ use Prim.Native.Nat.{ℕ}
 use Rattle.machine.specs.declared.Machine.{Machine}
 use Rattle.instructions.specs.declared.Auxiliary.{Auxiliary}
 use Rattle.instructions.specs.declared.Auxiliary.the-variants.{Lar, Sar, Lark, Mar, Adrk, Sbrk, Ldp, Ldpk}
-use Rattle.passes.specs.declared.Effect.{Effect}
-use Rattle.passes.specs.Passes.{kept, stored}
+use Rattle.pages.specs.declared.Effect.{Effect}
+use Rattle.pages.specs.Passes.{kept, stored}
 use Rattle.pages.specs.AuxiliaryPages.{LAR, SAR, LARK, MAR, ADRK, SBRK, LDP, LDPK}
 
 unfoldable pub auxiliaryRule : Auxiliary → Machine → Machine → ℕ → Effect

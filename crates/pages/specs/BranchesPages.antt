@@ -5,13 +5,13 @@ use Prim.Native.Nat.{ℕ}
 use lib.Dec.{eqb}
 use lib.IntN.{pos}
 use lib.Signed.{leZ, ltZ}
-use Rattle.words.specs.Word.{signed}
-use Rattle.registers.specs.Registers.{wrappedSum}
+use Rattle.alu.specs.Word.{signed}
+use Rattle.alu.specs.Registers.{wrappedSum}
 use Rattle.machine.specs.declared.Machine.{Machine}
 use Rattle.machine.specs.Cells.{withOv, register}
 use Rattle.machine.specs.Stack.{pushOn, popOn}
-use Rattle.passes.specs.declared.Effect.{Effect}
-use Rattle.passes.specs.Passes.{kept, jumped}
+use Rattle.pages.specs.declared.Effect.{Effect}
+use Rattle.pages.specs.Passes.{kept, jumped}
 
 -- "If .. : Then pma -> PC; Else (PC) + 2 -> PC"
 unfoldable pub branched : Bool → ℕ → Machine → Effect

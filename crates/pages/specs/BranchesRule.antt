@@ -3,7 +3,7 @@ use Prim.Native.Nat.{ℕ}
 use Rattle.machine.specs.declared.Machine.{Machine}
 use Rattle.instructions.specs.declared.Branches.{Branches}
 use Rattle.instructions.specs.declared.Branches.the-variants as Page
-use Rattle.passes.specs.declared.Effect.{Effect}
+use Rattle.pages.specs.declared.Effect.{Effect}
 use Rattle.pages.specs.BranchesPages.{B, BANZ, BZ, BNZ, BGZ, BGEZ, BLZ, BLEZ, BV, BNV, CALL, RET}
 
 unfoldable pub branchesRule : Branches → Machine → Machine → ℕ → Effect

@@ -1,3 +1,4 @@
+pub mod Passes
 pub mod Traits
 pub mod Addressing
 pub mod AccumulatorPages

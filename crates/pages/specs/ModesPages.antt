@@ -1,6 +1,6 @@
 -- The control pages: modes, repeats, PUSH and POP. The machine is that after the operand's modification, w the data word that was read.
 use Prim.Native.Nat.{ℕ, _%_, _^_}
-use Rattle.words.specs.Word.{lowHalf}
+use Rattle.alu.specs.Word.{lowHalf}
 use Rattle.machine.specs.declared.Machine.{Machine}
 use Rattle.machine.specs.Cells.{withAcc, withOvm, withSxm, withCnf, withRptc}
 use Rattle.machine.specs.Stack.{pushOn, popOn}

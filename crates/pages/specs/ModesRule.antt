@@ -3,8 +3,8 @@ use Prim.Native.Nat.{ℕ}
 use Rattle.machine.specs.declared.Machine.{Machine}
 use Rattle.instructions.specs.declared.Modes.{Modes}
 use Rattle.instructions.specs.declared.Modes.the-variants.{Sovm, Rovm, Ssxm, Rsxm, Cnfd, Cnfp, Rpt, Rptk, Push, Pop}
-use Rattle.passes.specs.declared.Effect.{Effect}
-use Rattle.passes.specs.Passes.{kept}
+use Rattle.pages.specs.declared.Effect.{Effect}
+use Rattle.pages.specs.Passes.{kept}
 use Rattle.pages.specs.ModesPages.{SOVM, ROVM, SSXM, RSXM, CNFD, CNFP, RPT, RPTK, PUSH, POP}
 
 unfoldable pub modesRule : Modes → Machine → ℕ → Effect

@@ -3,12 +3,12 @@
 use mathlib.Core.Bool.{cond}
 use Prim.Native.Nat.{ℕ}
 use lib.Dec.{eqb}
-use Rattle.sums.specs.Sums.{added, subtracted}
-use Rattle.products.specs.Products.{productWord, longConstant, shiftedProduct, productHigh, productLow}
-use Rattle.registers.specs.Registers.{wrappedSum}
+use Rattle.alu.specs.Sums.{added, subtracted}
+use Rattle.alu.specs.Products.{productWord, longConstant, shiftedProduct, productHigh, productLow}
+use Rattle.alu.specs.Registers.{wrappedSum}
 use Rattle.machine.specs.declared.Machine.{Machine}
 use Rattle.machine.specs.Cells.{withAcc, withP, withT, withPm, withPfc}
-use Rattle.passes.specs.Passes.{withSum}
+use Rattle.pages.specs.Passes.{withSum}
 
 -- "(shifted P register) -> ACC"
 unfoldable pub PAC : Machine → Machine

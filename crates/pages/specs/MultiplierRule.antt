@@ -3,8 +3,8 @@ use Prim.Native.Nat.{ℕ}
 use Rattle.machine.specs.declared.Machine.{Machine}
 use Rattle.instructions.specs.declared.Multiplier.{Multiplier}
 use Rattle.instructions.specs.declared.Multiplier.the-variants.{Lt, Lta, Ltp, Ltd, Lts, Mpy, Mpya, Mpys, Mpyk, Sqra, Sqrs, Mac, Macd, Pac, Apac, Spac, Spl, Sph, Spm}
-use Rattle.passes.specs.declared.Effect.{Effect}
-use Rattle.passes.specs.Passes.{kept, stored, copied}
+use Rattle.pages.specs.declared.Effect.{Effect}
+use Rattle.pages.specs.Passes.{kept, stored, copied}
 use Rattle.pages.specs.MultiplierPages.{LT, LTA, LTP, LTD, LTS, MPY, MPYA, MPYS, MPYK, SQRA, SQRS, MAC, MACD, PAC, APAC, SPAC, SPL, SPH, SPM}
 
 unfoldable pub multiplierRule : Multiplier → Machine → ℕ → ℕ → ℕ → Effect

@@ -2,7 +2,7 @@
 use Rattle.machine.specs.declared.Machine.{Machine}
 use Rattle.instructions.specs.declared.Instruction.{Instruction}
 use Rattle.instructions.specs.declared.Instruction.the-variants.{Accumulator, Multiplier, Auxiliary, Branches, Transfers, Modes}
-use Rattle.passes.specs.declared.Effect.{Effect}
+use Rattle.pages.specs.declared.Effect.{Effect}
 use Rattle.pages.specs.AccumulatorRule.{accumulatorRule}
 use Rattle.pages.specs.MultiplierRule.{multiplierRule}
 use Rattle.pages.specs.AuxiliaryRule.{auxiliaryRule}

@@ -1,11 +1,11 @@
 -- The pages of DMOV, IN and OUT. The machine is that after the operand's modification, w the data word that was read.
 use mathlib.Core.Bool.{Bool, cond}
 use Prim.Native.Nat.{ℕ}
-use Rattle.registers.specs.Registers.{wrappedSum}
+use Rattle.alu.specs.Registers.{wrappedSum}
 use Rattle.machine.specs.declared.Machine.{Machine}
 use Rattle.machine.specs.Cells.{withInputCursor, withOutputCursor}
-use Rattle.passes.specs.declared.Effect.{Effect}
-use Rattle.passes.specs.Passes.{stored, copied, sent}
+use Rattle.pages.specs.declared.Effect.{Effect}
+use Rattle.pages.specs.Passes.{stored, copied, sent}
 
 -- "(dma) -> dma + 1", where document 01 allows a data move
 unfoldable pub DMOV : ℕ → Machine → Effect

@@ -4,7 +4,7 @@ use Prim.Native.Nat.{ℕ}
 use Rattle.machine.specs.declared.Machine.{Machine}
 use Rattle.instructions.specs.declared.Transfers.{Transfers}
 use Rattle.instructions.specs.declared.Transfers.the-variants.{Dmov, In, Out}
-use Rattle.passes.specs.declared.Effect.{Effect}
+use Rattle.pages.specs.declared.Effect.{Effect}
 use Rattle.pages.specs.TransfersPages.{DMOV, IN, OUT}
 
 unfoldable pub transfersRule : Transfers → Machine → ℕ → Bool → ℕ → Effect

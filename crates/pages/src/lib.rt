@@ -1,5 +1,6 @@
 // What the pages say, in specs/ alone: the functions that do it stand above, a crate for each family. Here are only the types that they share.
 use dma::Address;
+use machine::Machine;
 
 // What an instruction's address field asks for.
 pub enum Operand {
@@ -42,4 +43,28 @@ pub struct Words {
     // The next word of the input, and whether there is none.
     pub next: u16,
     pub dry: bool,
+}
+
+// What a pass stores besides the machine's cells.
+pub enum Store {
+    Nothing,
+    // A data word, at the operand's address.
+    Word(u16),
+    // The operand's word, copied to the next address by a data move where one is allowed there.
+    Move(u16),
+    // A word sent on port 1.
+    Sent(u16),
+}
+
+// Where PC goes: past the instruction's words, or to where the instruction sends it.
+pub enum Jump {
+    Past,
+    To(u16),
+}
+
+// The machine after a page's rule, RPTC, MID and PC not yet moved on, and what is to be stored.
+pub struct Effect {
+    pub m: Machine,
+    pub store: Store,
+    pub jump: Jump,
 }

@@ -1,32 +1,11 @@
 // What a page's rule gives, and what follows every pass.
+use alu::Sum;
 use machine::Machine;
-use sums::Sum;
+use pages::Effect;
+use pages::Jump;
+use pages::Store;
 ghost use mathlib.Core.Path.{_≡_};
-ghost use Rattle.passes.specs.Passes.{withSum, kept, stored, copied, sent, jumped, followed};
-
-// What a pass stores besides the machine's cells.
-pub enum Store {
-    Nothing,
-    // A data word, at the operand's address.
-    Word(u16),
-    // The operand's word, copied to the next address by a data move where one is allowed there.
-    Move(u16),
-    // A word sent on port 1.
-    Sent(u16),
-}
-
-// Where PC goes: past the instruction's words, or to where the instruction sends it.
-pub enum Jump {
-    Past,
-    To(u16),
-}
-
-// The machine after a page's rule, RPTC, MID and PC not yet moved on, and what is to be stored.
-pub struct Effect {
-    pub m: Machine,
-    pub store: Store,
-    pub jump: Jump,
-}
+ghost use Rattle.pages.specs.Passes.{withSum, kept, stored, copied, sent, jumped, followed};
 
 pub fn with_sum(m: Machine, s: Sum) -> Machine
     ensures { λ r. ⌜ r ≡ withSum m s ⌝ }

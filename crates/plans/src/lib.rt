@@ -18,7 +18,7 @@ use stores::write_of;
 ghost use mathlib.Core.Path.{_≡_};
 ghost use lib.ListN.{getD};
 ghost use Rattle.pages.specs.Addressing.{addressOf};
-ghost use Rattle.windows.specs.Windows.{programWord};
+ghost use Rattle.board.specs.Windows.{programWord};
 ghost use Rattle.steps.specs.Pass.{readWord, wordsRead, performed, passPlan};
 
 fn word_at(data: &[u16], address: u32) -> u16

@@ -1,4 +1,1 @@
--- definitions
-pub mod Products
--- laws
 pub mod ProductLaws

@@ -5,10 +5,10 @@ use native.Mathlib.Omega.{arith}
 use native.Mathlib.Nat.{mul-le-mul}
 use lib.IntN.{ℤ, pos, negsuc, _*ℤ_}
 use lib.Signed.{shrZ}
-use Rattle.words.specs.Whole.{up, dn, part, neg-is, times-is}
-use Rattle.words.specs.Word.{signed, low}
-use Rattle.words.specs.WordLaws.{signed-is, low-is, extended-is}
-use Rattle.products.specs.Products.{product, productWord, longConstant, scaled, amountOf}
+use Rattle.alu.specs.Whole.{up, dn, part, neg-is, times-is}
+use Rattle.alu.specs.Word.{signed, low}
+use Rattle.alu.specs.WordLaws.{signed-is, low-is, extended-is}
+use Rattle.alu.specs.Products.{product, productWord, longConstant, scaled, amountOf}
 
 -- a product, by its factors' parts: one of the two products of parts on each side is zero
 pub times-parts : (a b : ℤ) → (up (a *ℤ b) ≡ up a * up b + dn a * dn b) × (dn (a *ℤ b) ≡ up a * dn b + dn a * up b)

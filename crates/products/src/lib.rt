@@ -2,7 +2,7 @@
 use words::bits;
 ghost use mathlib.Core.Path.{_≡_};
 ghost use Prim.Native.Nat.{_≤_};
-ghost use Rattle.products.specs.Products.{productWord, longConstant, scaled, amountOf, shiftedProduct, productHigh, productLow};
+ghost use Rattle.alu.specs.Products.{productWord, longConstant, scaled, amountOf, shiftedProduct, productHigh, productLow};
 
 // The signed product, as P takes it. Both words are extended by their signs: the low 32 bits are those of the exact product.
 pub fn product(x: u16, y: u16) -> u32

@@ -15,7 +15,7 @@ use Rattle.instructions.specs.Pages.{accumulatorPages, multiplierPages, auxilia
 use Rattle.instructions.specs.Decode.{decodeOf}
 use Rattle.instructions.specs.Every.{both-left, both-right}
 use Rattle.machine.specs.declared.Machine.{Machine}
-use Rattle.windows.specs.Windows.{programWord}
+use Rattle.board.specs.Windows.{programWord}
 use Rattle.steps.specs.Table.{decodedAt, isPublished}
 use Rattle.laws.specs.Steps.{_and_}
 use Rattle.ranges.specs.Fields.{NextFits, IndirectFits, AddressFits, DecodedFits}

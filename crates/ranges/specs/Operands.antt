@@ -36,9 +36,9 @@ use Rattle.pages.specs.declared.Traits.{Traits}
 use Rattle.pages.specs.Traits.{accumulatorTraits, multiplierTraits, auxiliaryTraits, branchesTraits, transfersTraits, modesTraits, traitsOf}
 use Rattle.pages.specs.Addressing.{moved, pointed, modified, addressed, addressOf}
 use Rattle.pages.specs.MultiplierPages.{tableAddress}
-use Rattle.regions.specs.Regions.{inRom, inProgramB0}
-use Rattle.slices.specs.Slices.{portSpent}
-use Rattle.windows.specs.Windows.{windowOf, programWord}
+use Rattle.board.specs.Regions.{inRom, inProgramB0}
+use Rattle.board.specs.Slices.{portSpent}
+use Rattle.board.specs.Windows.{windowOf, programWord}
 use Rattle.steps.specs.Pass.{readWord, wordsRead}
 use Rattle.steps.specs.Table.{secondAddress, secondWord}
 use Rattle.ranges.specs.Ranges.{WordsFit}

@@ -9,7 +9,7 @@ use Rattle.machine.specs.Reset.{resetMachine}
 use Rattle.machine.specs.Range.{inRange}
 use Rattle.answers.specs.declared.Answer.the-variants.{Done}
 use Rattle.answers.specs.Numbers.{numberOf}
-use Rattle.slices.specs.Slices.{slicesFit}
+use Rattle.board.specs.Slices.{slicesFit}
 use Rattle.steps.specs.World.{World}
 use Rattle.steps.specs.Step.{stepOf, runOf}
 use Rattle.laws.specs.Laws.{AllDone}

@@ -3,8 +3,8 @@ use mathlib.Core.Path.{_≡_, refl}
 use mathlib.Core.Bool.{Bool, true, false}
 use Prim.Native.Nat.{ℕ, _%_, _^_, _<_}
 use native.Mathlib.Omega.{arith}
-use Rattle.sums.specs.declared.Sum.{Sum}
-use Rattle.shifts.specs.declared.Shifted.{Shifted}
+use Rattle.alu.specs.declared.Sum.{Sum}
+use Rattle.alu.specs.declared.Shifted.{Shifted}
 use Rattle.machine.specs.declared.Machine.{Machine}
 use Rattle.instructions.specs.declared.Instruction.{Instruction}
 use Rattle.instructions.specs.declared.Instruction.the-variants as Family
@@ -32,12 +32,12 @@ use Rattle.instructions.specs.declared.Modes.{Modes}
 use Rattle.instructions.specs.declared.Modes.the-variants as Modes
 use Rattle.pages.specs.ModesRule.{modesRule}
 use Rattle.pages.specs.ModesPages.{SOVM, ROVM, SSXM, RSXM, CNFD, CNFP, RPT, RPTK, PUSH, POP}
-use Rattle.passes.specs.declared.Store.{Store}
-use Rattle.passes.specs.declared.Store.the-variants as Left
-use Rattle.passes.specs.declared.Jump.{Jump}
-use Rattle.passes.specs.declared.Jump.the-variants.{Past, To}
-use Rattle.passes.specs.declared.Effect.{Effect}
-use Rattle.passes.specs.Passes.{withSum, kept, stored, copied, jumped}
+use Rattle.pages.specs.declared.Store.{Store}
+use Rattle.pages.specs.declared.Store.the-variants as Left
+use Rattle.pages.specs.declared.Jump.{Jump}
+use Rattle.pages.specs.declared.Jump.the-variants.{Past, To}
+use Rattle.pages.specs.declared.Effect.{Effect}
+use Rattle.pages.specs.Passes.{withSum, kept, stored, copied, jumped}
 use Rattle.pages.specs.Traits.{traitsOf, transfersTraits}
 use Rattle.steps.specs.Refusals.{sends}
 use Rattle.pages.specs.declared.Words.{Words}

@@ -14,8 +14,8 @@ use Rattle.answers.specs.declared.Answer.{Answer}
 use Rattle.answers.specs.declared.Answer.the-variants.{Done}
 use Rattle.answers.specs.Numbers.{numberOf}
 use Rattle.instructions.specs.declared.Decoded.{Decoded}
-use Rattle.slices.specs.Slices.{memoriesFit, portFits, slicesFit}
-use Rattle.slices.specs.SliceLaws.{slices-fit}
+use Rattle.board.specs.Slices.{memoriesFit, portFits, slicesFit}
+use Rattle.board.specs.SliceLaws.{slices-fit}
 use Rattle.steps.specs.Rows.{Row, row, firstGiven}
 use Rattle.steps.specs.World.{World, RunOutcome}
 use Rattle.steps.specs.Table.{decodedAt, tableFor, checksOf}

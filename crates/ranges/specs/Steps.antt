@@ -15,22 +15,22 @@ use Rattle.answers.specs.NumberLaws.{done-is}
 use Rattle.instructions.specs.declared.Instruction.{Instruction}
 use Rattle.instructions.specs.declared.Decoded.{Decoded}
 use Rattle.instructions.specs.declared.Decoded.the-variants.{Base, Published, Nothing}
-use Rattle.passes.specs.declared.Store.{Store}
-use Rattle.passes.specs.declared.Store.the-variants as Left
-use Rattle.passes.specs.declared.Jump.{Jump}
-use Rattle.passes.specs.declared.Jump.the-variants.{Past, To}
-use Rattle.passes.specs.Passes.{destination, followed}
+use Rattle.pages.specs.declared.Store.{Store}
+use Rattle.pages.specs.declared.Store.the-variants as Left
+use Rattle.pages.specs.declared.Jump.{Jump}
+use Rattle.pages.specs.declared.Jump.the-variants.{Past, To}
+use Rattle.pages.specs.Passes.{destination, followed}
 use Rattle.pages.specs.declared.Traits.{Traits}
 use Rattle.pages.specs.Traits.{traitsOf}
 use Rattle.pages.specs.Addressing.{addressOf}
-use Rattle.regions.specs.Regions.{moveAllowed}
-use Rattle.slices.specs.Slices.{memoriesFit, portFits, portSpent, slicesFit}
-use Rattle.slices.specs.SliceLaws.{slices-fit}
-use Rattle.stores.specs.declared.Write.{Write}
-use Rattle.stores.specs.declared.Write.the-variants as Write
+use Rattle.board.specs.Regions.{moveAllowed}
+use Rattle.board.specs.Slices.{memoriesFit, portFits, portSpent, slicesFit}
+use Rattle.board.specs.SliceLaws.{slices-fit}
+use Rattle.steps.specs.declared.Write.{Write}
+use Rattle.steps.specs.declared.Write.the-variants as Write
 use Rattle.steps.specs.Rows.{Row}
 use Rattle.steps.specs.Refusals.{sends, outputFull}
-use Rattle.stores.specs.Stores.{writeOf, dataAfter, outputAfter}
+use Rattle.steps.specs.Stores.{writeOf, dataAfter, outputAfter}
 use Rattle.steps.specs.Pass.{wordsRead, effectOf, passedMachine, passedWrite, performed}
 use Rattle.steps.specs.World.{World}
 use Rattle.steps.specs.Table.{decodedAt, secondWord, tableFor}

@@ -9,17 +9,17 @@ use lib.Bits.{differ}
 use lib.IntN.{ℤ, pos, negsuc, _-ℤ_}
 use lib.Signed.{shrZ}
 use borrow.Author.Tests.{ltb-true}
-use Rattle.words.specs.Word.{signed}
-use Rattle.words.specs.WordLaws.{low-lt}
-use Rattle.sums.specs.declared.Sum.{Sum}
-use Rattle.shifts.specs.declared.Shifted.{Shifted}
-use Rattle.sums.specs.Sums.{holds, held, settled, carry, noBorrow, added, subtracted}
-use Rattle.page_sums.specs.PageSums.{inHighHalf, addedHigh, subtractedHigh, aluOutput, subtractedConditionally, negated, absolute}
-use Rattle.shifts.specs.Shifts.{operand, unsignedOperand, storedLow, storedHigh, leftByOne, rightByOne}
-use Rattle.words.specs.Logic.{bitByBit, anded, ored, xored, complemented}
-use Rattle.products.specs.Products.{productWord, scaled, shiftedProduct, productHigh, productLow}
-use Rattle.registers.specs.Registers.{wrappedSum, wrappedDifference, reversedSum, reversedDifference}
-use Rattle.registers.specs.RegisterLaws.{reversed-lt}
+use Rattle.alu.specs.Word.{signed}
+use Rattle.alu.specs.WordLaws.{low-lt}
+use Rattle.alu.specs.declared.Sum.{Sum}
+use Rattle.alu.specs.declared.Shifted.{Shifted}
+use Rattle.alu.specs.Sums.{holds, held, settled, carry, noBorrow, added, subtracted}
+use Rattle.alu.specs.PageSums.{inHighHalf, addedHigh, subtractedHigh, aluOutput, subtractedConditionally, negated, absolute}
+use Rattle.alu.specs.Shifts.{operand, unsignedOperand, storedLow, storedHigh, leftByOne, rightByOne}
+use Rattle.alu.specs.Logic.{bitByBit, anded, ored, xored, complemented}
+use Rattle.alu.specs.Products.{productWord, scaled, shiftedProduct, productHigh, productLow}
+use Rattle.alu.specs.Registers.{wrappedSum, wrappedDifference, reversedSum, reversedDifference}
+use Rattle.alu.specs.RegisterLaws.{reversed-lt}
 
 either : (t : Bool) {a b n : ℕ} → a < n → b < n → cond t a b < n
 either true h k = h

@@ -6,10 +6,10 @@ use pages::Access;
 use pages::Port;
 use pages::Traits;
 use steps::Plan;
-use stores::Write;
+use steps::Write;
 ghost use mathlib.Core.Path.{_≡_};
 ghost use mathlib.Core.Bool.{not, _&&_};
-ghost use Rattle.regions.specs.Regions.{dataPresent, programPresent};
+ghost use Rattle.board.specs.Regions.{dataPresent, programPresent};
 ghost use Rattle.steps.specs.Pass.{refused};
 ghost use Rattle.steps.specs.Refusals.{accesses, wrongPort, sends, passRefusal};
 

@@ -3,8 +3,8 @@ use mathlib.Core.Path.{_≡_, refl}
 use mathlib.Core.Bool.{Bool, true, false}
 use Prim.Native.Nat.{ℕ, _≤_}
 use native.Mathlib.Omega.{arith}
-use Rattle.regions.specs.Regions.{dataPresent, moveAllowed}
-use Rattle.regions.specs.RegionLaws.{present-below, moves}
+use Rattle.board.specs.Regions.{dataPresent, moveAllowed}
+use Rattle.board.specs.RegionLaws.{present-below, moves}
 
 false-unless : (t : Bool) → (t ≡ true → ⊥) → t ≡ false
 false-unless true h = absurd (h refl)

@@ -1,15 +1,7 @@
 // Which data and program addresses are on the board.
+use board::Region;
 ghost use mathlib.Core.Path.{_≡_};
-ghost use Rattle.regions.specs.Regions.{present, onChipRegion, dataRegion, dataPresent, onChip, moveAllowed, inRom, inProgramB0, programPresent};
-
-// Where a data address lies. One function, data_region, knows the ranges, and asks first for the one that frames lie in.
-pub enum Region {
-    Absent,
-    B2,
-    B0,
-    B1,
-    External,
-}
+ghost use Rattle.board.specs.Regions.{present, onChipRegion, dataRegion, dataPresent, onChip, moveAllowed, inRom, inProgramB0, programPresent};
 
 pub fn region_present(region: Region) -> bool
     ensures { λ r. ⌜ r ≡ present region ⌝ }

@@ -1,6 +1,6 @@
 // Sums of 16-bit registers.
 ghost use mathlib.Core.Path.{_≡_};
-ghost use Rattle.registers.specs.Registers.{wrappedSum, wrappedDifference, reversed, reversedSum, reversedDifference};
+ghost use Rattle.alu.specs.Registers.{wrappedSum, wrappedDifference, reversed, reversedSum, reversedDifference};
 
 pub fn wrapped_sum(a: u16, b: u16) -> u16
     ensures { λ r. ⌜ r ≡ wrappedSum a b ⌝ }

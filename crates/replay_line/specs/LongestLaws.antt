@@ -11,8 +11,8 @@ use Rattle.machine.specs.RangeLaws.{ranged}
 use Rattle.answers.specs.declared.Answer.the-variants.{Done}
 use Rattle.answers.specs.Numbers.{numberOf, isDone}
 use Rattle.answers.specs.NumberLaws.{done-is}
-use Rattle.slices.specs.SliceLaws.{slices-fit}
-use Rattle.windows.specs.Windows.{wordsSent, wordsSentAnswer}
+use Rattle.board.specs.SliceLaws.{slices-fit}
+use Rattle.board.specs.Windows.{wordsSent, wordsSentAnswer}
 use Rattle.runfile.specs.Files.{readAnswer, readContents, withinLimits}
 use Rattle.runfile.specs.Facts.{Below}
 use Rattle.runfile.specs.FileLaws.{counts-facts}

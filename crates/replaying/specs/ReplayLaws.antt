@@ -12,7 +12,7 @@ use Rattle.machine.specs.declared.Machine.{Machine}
 use Rattle.machine.specs.Reset.{resetMachine}
 use Rattle.answers.specs.declared.Answer.the-variants.{Done, FileShort, FileRules, FileVersion}
 use Rattle.answers.specs.Numbers.{isDone}
-use Rattle.slices.specs.Slices.{memoriesFit}
+use Rattle.board.specs.Slices.{memoriesFit}
 use Rattle.runfile.specs.declared.reading.Head.{Head}
 use Rattle.runfile.specs.Files.{Contents, numbersOf, rulesKept, readAnswer, readContents, headOf}
 use Rattle.setting_up.specs.SetUp.{lent, lentFit, setUpAnswer, loaded, setUp}

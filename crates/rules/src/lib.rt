@@ -1,8 +1,8 @@
 // One rule for every instruction of the base, by its family.
 use instructions::Instruction;
 use machine::Machine;
+use pages::Effect;
 use pages::Words;
-use passes::Effect;
 ghost use mathlib.Core.Path.{_≡_};
 ghost use Rattle.pages.specs.Rules.{ruleOf};
 

@@ -7,7 +7,7 @@ use lib.ListN.{length}
 use Rattle.answers.specs.declared.Answer.{Answer}
 use Rattle.answers.specs.declared.Answer.the-variants.{Done, SlicesUnfit}
 use Rattle.answers.specs.Numbers.{isDone}
-use Rattle.slices.specs.Slices.{memoriesFit}
+use Rattle.board.specs.Slices.{memoriesFit}
 use Rattle.runfile.specs.Files.{Contents, readAnswer, readContents}
 
 -- the lent slices

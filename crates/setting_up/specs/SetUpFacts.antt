@@ -5,7 +5,7 @@ use mathlib.Core.List.{List}
 use Prim.Native.Nat.{ℕ}
 use lib.ListN.{length}
 use Rattle.answers.specs.Numbers.{isDone}
-use Rattle.slices.specs.SliceFacts.{MemoriesFit}
+use Rattle.board.specs.SliceFacts.{MemoriesFit}
 use Rattle.runfile.specs.Files.{numbersOf, readAnswer}
 use Rattle.runfile.specs.Facts.{Accepted}
 use Rattle.setting_up.specs.SetUp.{Lent}

@@ -8,8 +8,8 @@ use lib.ListN.{length}
 use lib.Seq.{sets}
 use borrow.Author.Tests.{eqb-true}
 use Rattle.answers.specs.Numbers.{isDone}
-use Rattle.slices.specs.SliceFacts.{MemoriesFit}
-use Rattle.slices.specs.SliceLaws.{memories-fit}
+use Rattle.board.specs.SliceFacts.{MemoriesFit}
+use Rattle.board.specs.SliceLaws.{memories-fit}
 use Rattle.runfile.specs.declared.numbers.EightNumbers.{EightNumbers}
 use Rattle.runfile.specs.Files.{Contents, numbersOf, readAnswer, readContents, sectionsOf, wordsAt}
 use Rattle.runfile.specs.WordLaws.{words-length, sets-whole}

@@ -1,4 +1,1 @@
--- definitions
-pub mod Shifts
--- laws
 pub mod ShiftLaws

@@ -7,10 +7,10 @@ use lib.IntN.{ℤ, pos, negsuc, _*ℤ_}
 use lib.Pow.{pow-add}
 use lib.Signed.{shrZ}
 use borrow.Author.Tests.{eq-eqb, ne-eqb}
-use Rattle.words.specs.Whole.{up, dn, times-is}
-use Rattle.words.specs.Word.{signed, low}
-use Rattle.words.specs.WordLaws.{signed-is, low-is, extended-is}
-use Rattle.shifts.specs.Shifts.{extended, operand, storedLow, leftByOne, rightByOne}
+use Rattle.alu.specs.Whole.{up, dn, times-is}
+use Rattle.alu.specs.Word.{signed, low}
+use Rattle.alu.specs.WordLaws.{signed-is, low-is, extended-is}
+use Rattle.alu.specs.Shifts.{extended, operand, storedLow, leftByOne, rightByOne}
 
 -- nothing is left of 32 bits that go 32 places or more
 pub all-lost : (x s : ℕ) → 32 ≤ s → x * 2 ^ s % 2 ^ 32 ≡ 0

@@ -1,14 +1,9 @@
 // The operand of ADD, SUB and LAC, what SACL and SACH store, SFL and SFR.
+use alu::Shifted;
 use words::bits;
 ghost use mathlib.Core.Path.{_≡_};
 ghost use Prim.Native.Nat.{_*_, _%_, _^_};
-ghost use Rattle.shifts.specs.Shifts.{operand, unsignedOperand, storedLow, storedHigh, leftByOne, rightByOne};
-
-// What SFL and SFR leave in ACC and C.
-pub struct Shifted {
-    pub acc: u32,
-    pub c: u8,
-}
+ghost use Rattle.alu.specs.Shifts.{operand, unsignedOperand, storedLow, storedHigh, leftByOne, rightByOne};
 
 // The low 32 bits of `x` shifted left, by any number of places.
 fn shift_left(x: u32, s: u8) -> u32

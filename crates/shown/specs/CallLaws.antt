@@ -7,10 +7,10 @@ use lib.ListN.{length}
 use Rattle.machine.specs.declared.Machine.{Machine}
 use Rattle.answers.specs.declared.Answer.{Answer}
 use Rattle.answers.specs.Numbers.{numberOf, isDone}
-use Rattle.regions.specs.Regions.{inRom, programPresent}
-use Rattle.regions.specs.RegionLaws.{program-b0}
-use Rattle.windows.specs.Windows.{windowAnswer, windowShown, wordsSentAnswer, wordsSent}
-use Rattle.windows.specs.WindowLaws.{window-done}
+use Rattle.board.specs.Regions.{inRom, programPresent}
+use Rattle.board.specs.RegionLaws.{program-b0}
+use Rattle.board.specs.Windows.{windowAnswer, windowShown, wordsSentAnswer, wordsSent}
+use Rattle.board.specs.WindowLaws.{window-done}
 use Rattle.cells.specs.Cells.{machineOf}
 use Rattle.cells.specs.Checks.{cellsAnswer}
 use Rattle.shown.specs.declared.window.Place.{Place}

@@ -5,8 +5,8 @@ use Prim.Native.Nat.{ℕ, _+_, _-_}
 use lib.ListN.{length}
 use Rattle.machine.specs.declared.Machine.{Machine}
 use Rattle.answers.specs.Numbers.{numberOf, isDone}
-use Rattle.regions.specs.Regions.{inRom}
-use Rattle.windows.specs.Windows.{windowAnswer, windowShown, wordsSentAnswer, wordsSent}
+use Rattle.board.specs.Regions.{inRom}
+use Rattle.board.specs.Windows.{windowAnswer, windowShown, wordsSentAnswer, wordsSent}
 use Rattle.cells.specs.Cells.{machineOf}
 use Rattle.cells.specs.Checks.{cellsAnswer}
 use Rattle.shown.specs.declared.window.Place.{Place}

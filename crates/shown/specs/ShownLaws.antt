@@ -9,11 +9,11 @@ use lib.ListN.{length, take}
 use lib.Seq.{slice}
 use Rattle.machine.specs.declared.Machine.{Machine}
 use Rattle.answers.specs.Numbers.{isDone}
-use Rattle.regions.specs.Regions.{inRom, inProgramB0, programPresent}
-use Rattle.regions.specs.RegionLaws.{rom-below, program-b0}
-use Rattle.slices.specs.SliceLaws.{memories-fit}
-use Rattle.windows.specs.Windows.{windowOf, windowAnswer, windowShown, wordsSentAnswer, wordsSent}
-use Rattle.windows.specs.WindowLaws.{window-done, rom-window-length, b0-window-length, sent-length, refused-sent}
+use Rattle.board.specs.Regions.{inRom, inProgramB0, programPresent}
+use Rattle.board.specs.RegionLaws.{rom-below, program-b0}
+use Rattle.board.specs.SliceLaws.{memories-fit}
+use Rattle.board.specs.Windows.{windowOf, windowAnswer, windowShown, wordsSentAnswer, wordsSent}
+use Rattle.board.specs.WindowLaws.{window-done, rom-window-length, b0-window-length, sent-length, refused-sent}
 use Rattle.cells.specs.Cells.{machineOf}
 use Rattle.cells.specs.Checks.{cellsAnswer}
 use Rattle.shown.specs.declared.window.Place.{Place}

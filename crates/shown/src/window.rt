@@ -1,7 +1,7 @@
 // The fetch window.
 ghost use mathlib.Core.Path.{_≡_};
 ghost use lib.ListN.{length};
-ghost use Rattle.windows.specs.Windows.{windowShown};
+ghost use Rattle.board.specs.Windows.{windowShown};
 ghost use Rattle.shown.specs.Shown.{placeOf, placed, windowCalled};
 use answers::is_done;
 use cell_reading::machine_of;

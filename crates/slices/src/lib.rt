@@ -3,7 +3,7 @@ ghost use mathlib.Core.Path.{_≡_};
 ghost use Prim.Native.Nat.{min};
 ghost use lib.ListN.{getD, set};
 ghost use lib.Seq.{slice};
-ghost use Rattle.slices.specs.Slices.{memoriesFit, portFits, portSpent, slicesFit, pageStored};
+ghost use Rattle.board.specs.Slices.{memoriesFit, portFits, portSpent, slicesFit, pageStored};
 use machine::Machine;
 
 const MEMORY_WORDS: usize = 4096;

@@ -6,7 +6,7 @@ use mathlib.Core.Logic.{_↔_}
 use Prim.Native.Nat.{ℕ, zero, suc, _+_, _≤_, _<_}
 use native.Mathlib.Omega.{arith}
 use lib.ListN.{length}
-use Rattle.registers.specs.Registers.{wrappedSum}
+use Rattle.alu.specs.Registers.{wrappedSum}
 use Rattle.machine.specs.declared.Machine.{Machine}
 use Rattle.answers.specs.Numbers.{isDone}
 use Rattle.instructions.specs.declared.Instruction.the-variants as Family
@@ -14,8 +14,8 @@ use Rattle.instructions.specs.declared.Multiplier.the-variants.{Apac}
 use Rattle.instructions.specs.declared.Decoded.the-variants.{Base}
 use Rattle.pages.specs.declared.Operand.the-variants as Operand
 use Rattle.pages.specs.Traits.{traitsOf, multiplierTraits}
-use Rattle.passes.specs.declared.Jump.the-variants.{Past}
-use Rattle.passes.specs.Passes.{followed}
+use Rattle.pages.specs.declared.Jump.the-variants.{Past}
+use Rattle.pages.specs.Passes.{followed}
 use Rattle.pages.specs.Addressing.{addressed}
 use Rattle.pages.specs.MultiplierPages.{APAC}
 use Rattle.pages.specs.MultiplierRule.{multiplierRule}

@@ -5,7 +5,7 @@ use mathlib.Core.List.{List, [], _∷_}
 use Prim.Native.Nat.{ℕ, zero, suc, _+_, _-_, _^_, _<_}
 use native.Mathlib.Omega.{arith}
 use lib.ListN.{getD, set}
-use Rattle.registers.specs.Registers.{wrappedSum}
+use Rattle.alu.specs.Registers.{wrappedSum}
 use Rattle.machine.specs.declared.Machine.{Machine}
 use Rattle.answers.specs.Numbers.{isDone}
 use Rattle.instructions.specs.declared.Instruction.{Instruction}
@@ -15,19 +15,19 @@ use Rattle.instructions.specs.declared.Multiplier.the-variants.{Mac}
 use Rattle.instructions.specs.declared.Decoded.the-variants.{Base, Nothing}
 use Rattle.pages.specs.declared.Operand.the-variants.{At}
 use Rattle.pages.specs.Traits.{traitsOf, modesTraits, multiplierTraits}
-use Rattle.passes.specs.declared.Jump.the-variants.{Past}
-use Rattle.passes.specs.Passes.{followed, destination}
+use Rattle.pages.specs.declared.Jump.the-variants.{Past}
+use Rattle.pages.specs.Passes.{followed, destination}
 use Rattle.pages.specs.Addressing.{addressed, addressOf}
 use Rattle.pages.specs.ModesPages.{RPT, RPTK}
 use Rattle.pages.specs.ModesRule.{modesRule}
 use Rattle.pages.specs.MultiplierPages.{APAC, MAC, MACD}
 use Rattle.pages.specs.MultiplierRule.{multiplierRule}
 use Rattle.pages.specs.Rules.{ruleOf}
-use Rattle.regions.specs.Regions.{inRom, inProgramB0, moveAllowed}
-use Rattle.windows.specs.Windows.{windowOf, programWord}
-use Rattle.windows.specs.WindowLaws.{rom-word, b0-word}
-use Rattle.stores.specs.declared.Write.the-variants as Write
-use Rattle.stores.specs.Stores.{writeOf, dataAfter, outputAfter}
+use Rattle.board.specs.Regions.{inRom, inProgramB0, moveAllowed}
+use Rattle.board.specs.Windows.{windowOf, programWord}
+use Rattle.board.specs.WindowLaws.{rom-word, b0-word}
+use Rattle.steps.specs.declared.Write.the-variants as Write
+use Rattle.steps.specs.Stores.{writeOf, dataAfter, outputAfter}
 use Rattle.steps.specs.Pass.{readWord, wordsRead, effectOf, passedMachine, passedWrite, performed}
 use Rattle.steps.specs.World.{World}
 use Rattle.steps.specs.Table.{decodedAt, secondWord}

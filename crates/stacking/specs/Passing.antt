@@ -8,7 +8,7 @@ use lib.Dec.{ltb}
 use lib.ListN.{length, getD, set}
 use lib.Seq.{getD-set-other}
 use borrow.Author.Tests.{lt-ltb, le-ltb}
-use Rattle.registers.specs.Registers.{wrappedSum}
+use Rattle.alu.specs.Registers.{wrappedSum}
 use Rattle.machine.specs.declared.Machine.{Machine}
 use Rattle.answers.specs.Numbers.{isDone}
 use Rattle.instructions.specs.declared.Instruction.{Instruction}
@@ -20,18 +20,18 @@ use Rattle.instructions.specs.declared.Decoded.the-variants.{Base, Nothing}
 use Rattle.pages.specs.Traits.{traitsOf}
 use Rattle.pages.specs.declared.Operand.{Operand}
 use Rattle.pages.specs.declared.Operand.the-variants as Operand
-use Rattle.passes.specs.declared.Jump.{Jump}
-use Rattle.passes.specs.declared.Jump.the-variants.{Past}
-use Rattle.passes.specs.Passes.{followed, destination}
+use Rattle.pages.specs.declared.Jump.{Jump}
+use Rattle.pages.specs.declared.Jump.the-variants.{Past}
+use Rattle.pages.specs.Passes.{followed, destination}
 use Rattle.pages.specs.Addressing.{pointed, modified, addressed}
 use Rattle.pages.specs.MultiplierPages.{APAC, MAC}
-use Rattle.regions.specs.Regions.{dataRegion, onChip, onChipRegion, moveAllowed, inRom, inProgramB0}
-use Rattle.regions.specs.declared.Region.{Region}
-use Rattle.regions.specs.declared.Region.the-variants.{Absent, B2, B0, B1, External}
-use Rattle.regions.specs.RegionFacts.{Lies}
-use Rattle.regions.specs.RegionLaws.{region-lies, moves, program-b0}
-use Rattle.windows.specs.Windows.{windowOf, programWord}
-use Rattle.windows.specs.WindowLaws.{rom-word, b0-word}
+use Rattle.board.specs.Regions.{dataRegion, onChip, onChipRegion, moveAllowed, inRom, inProgramB0}
+use Rattle.board.specs.declared.Region.{Region}
+use Rattle.board.specs.declared.Region.the-variants.{Absent, B2, B0, B1, External}
+use Rattle.board.specs.RegionFacts.{Lies}
+use Rattle.board.specs.RegionLaws.{region-lies, moves, program-b0}
+use Rattle.board.specs.Windows.{windowOf, programWord}
+use Rattle.board.specs.WindowLaws.{rom-word, b0-word}
 use Rattle.steps.specs.declared.Plan.{Plan}
 use Rattle.steps.specs.Pass.{performed, refused}
 use Rattle.steps.specs.World.{World}

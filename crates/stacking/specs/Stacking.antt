@@ -4,8 +4,8 @@ use mathlib.Core.Bool.{true}
 use mathlib.Core.List.{List, [], _∷_}
 use Prim.Native.Nat.{ℕ, zero, suc, _+_, _%_, _^_, _<_}
 use lib.ListN.{getD}
-use Rattle.words.specs.Word.{signed}
-use Rattle.registers.specs.Registers.{wrappedSum}
+use Rattle.alu.specs.Word.{signed}
+use Rattle.alu.specs.Registers.{wrappedSum}
 use Rattle.answers.specs.Numbers.{isDone}
 use Rattle.instructions.specs.declared.Instruction.{Instruction}
 use Rattle.instructions.specs.declared.Instruction.the-variants as Family
@@ -18,7 +18,7 @@ use Rattle.instructions.specs.Decode.{decodeOf}
 use Rattle.pages.specs.declared.Operand.the-variants.{At}
 use Rattle.pages.specs.Traits.{traitsOf}
 use Rattle.pages.specs.Addressing.{addressOf}
-use Rattle.windows.specs.Windows.{programWord}
+use Rattle.board.specs.Windows.{programWord}
 use Rattle.steps.specs.Pass.{wordsRead}
 use Rattle.steps.specs.World.{World}
 use Rattle.steps.specs.Table.{decodedAt, secondWord}

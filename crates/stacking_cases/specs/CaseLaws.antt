@@ -2,10 +2,10 @@
 use mathlib.Core.Path.{_≡_, refl}
 use mathlib.Core.List.{List, [], _∷_}
 use Prim.Native.Nat.{ℕ}
-use Rattle.words.specs.Word.{signed, low}
-use Rattle.sums.specs.Sums.{holds, held, settled, carry, noBorrow, added, subtracted}
-use Rattle.products.specs.Products.{product, productWord, scaled, amountOf, shiftedProduct, productHigh, productLow}
-use Rattle.registers.specs.Registers.{wrappedSum, wrappedDifference, reversed, reversedSum}
+use Rattle.alu.specs.Word.{signed, low}
+use Rattle.alu.specs.Sums.{holds, held, settled, carry, noBorrow, added, subtracted}
+use Rattle.alu.specs.Products.{product, productWord, scaled, amountOf, shiftedProduct, productHigh, productLow}
+use Rattle.alu.specs.Registers.{wrappedSum, wrappedDifference, reversed, reversedSum}
 use Rattle.machine.specs.Reset.{resetMachine}
 use Rattle.machine.specs.Range.{inRange}
 use Rattle.instructions.specs.Encoding.{lowFits, modificationOf, nextOf, indirectOf, addressOf}
@@ -18,13 +18,13 @@ use Rattle.pages.specs.ModesPages.{RPTK}
 use Rattle.pages.specs.ModesRule.{modesRule}
 use Rattle.pages.specs.MultiplierRule.{multiplierRule}
 use Rattle.pages.specs.Rules.{ruleOf}
-use Rattle.passes.specs.Passes.{followed, destination}
-use Rattle.regions.specs.Regions.{dataRegion, dataPresent, inRom, inProgramB0, programPresent}
-use Rattle.slices.specs.Slices.{memoriesFit, portFits, portSpent, slicesFit}
-use Rattle.windows.specs.Windows.{windowOf, programWord}
+use Rattle.pages.specs.Passes.{followed, destination}
+use Rattle.board.specs.Regions.{dataRegion, dataPresent, inRom, inProgramB0, programPresent}
+use Rattle.board.specs.Slices.{memoriesFit, portFits, portSpent, slicesFit}
+use Rattle.board.specs.Windows.{windowOf, programWord}
 use Rattle.steps.specs.Rows.{firstGiven}
 use Rattle.steps.specs.Refusals.{accesses, wrongPort, sends, addressAbove, dataAbsent, tableAbsent, outputFull}
-use Rattle.stores.specs.Stores.{writeOf, dataAfter, outputAfter}
+use Rattle.steps.specs.Stores.{writeOf, dataAfter, outputAfter}
 use Rattle.steps.specs.Pass.{readWord, wordsRead, effectOf, passedMachine, passedWrite, performed}
 use Rattle.steps.specs.Table.{checksOf, decodedAt, secondAddress, secondWord, notRepeatable, secondAbsent, tableFor, refusalOf}
 use Rattle.steps.specs.Step.{pagePlan, planOf, stored, stepOf, runOf}

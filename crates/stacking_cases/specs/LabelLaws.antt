@@ -7,15 +7,15 @@ use native.Mathlib.Omega.{arith, by-contra, both-ways}
 use lib.Dec.{ltb}
 use lib.ListN.{getD}
 use borrow.Author.Tests.{ltb-true}
-use Rattle.registers.specs.Registers.{wrappedSum}
+use Rattle.alu.specs.Registers.{wrappedSum}
 use Rattle.machine.specs.Reset.{resetMachine}
 use Rattle.answers.specs.declared.Answer.the-variants.{Done}
 use Rattle.answers.specs.Numbers.{isDone}
 use Rattle.answers.specs.NumberLaws.{number-injective}
 use Rattle.instructions.specs.Encoding.{lowFits, modificationOf, nextOf, indirectOf, addressOf}
 use Rattle.instructions.specs.Decode.{decodeOf}
-use Rattle.regions.specs.Regions.{inRom, inProgramB0}
-use Rattle.windows.specs.Windows.{windowOf, programWord}
+use Rattle.board.specs.Regions.{inRom, inProgramB0}
+use Rattle.board.specs.Windows.{windowOf, programWord}
 use Rattle.steps.specs.Table.{decodedAt}
 use Rattle.instructions.specs.declared.Instruction.the-variants as Family
 use Rattle.dma.specs.declared.Address.the-variants.{Direct}

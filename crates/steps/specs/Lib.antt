@@ -1,4 +1,5 @@
 -- definitions
+pub mod Stores
 pub mod Rows
 pub mod Refusals
 pub mod Pass

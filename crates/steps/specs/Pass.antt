@@ -12,18 +12,18 @@ use Rattle.pages.specs.declared.Access.{Access}
 use Rattle.pages.specs.declared.Access.the-variants as Access
 use Rattle.pages.specs.declared.Traits.{Traits}
 use Rattle.pages.specs.Traits.{traitsOf}
-use Rattle.passes.specs.declared.Effect.{Effect}
-use Rattle.passes.specs.Passes.{followed}
+use Rattle.pages.specs.declared.Effect.{Effect}
+use Rattle.pages.specs.Passes.{followed}
 use Rattle.pages.specs.Addressing.{addressed, addressOf}
 use Rattle.pages.specs.MultiplierPages.{tableAddress}
 use Rattle.pages.specs.declared.Words.{Words}
 use Rattle.pages.specs.Rules.{ruleOf}
-use Rattle.slices.specs.Slices.{portSpent}
-use Rattle.windows.specs.Windows.{programWord}
+use Rattle.board.specs.Slices.{portSpent}
+use Rattle.board.specs.Windows.{programWord}
 use Rattle.steps.specs.Refusals.{passRefusal}
-use Rattle.stores.specs.Stores.{writeOf}
-use Rattle.stores.specs.declared.Write.{Write}
-use Rattle.stores.specs.declared.Write.the-variants.{Nothing}
+use Rattle.steps.specs.Stores.{writeOf}
+use Rattle.steps.specs.declared.Write.{Write}
+use Rattle.steps.specs.declared.Write.the-variants.{Nothing}
 use Rattle.steps.specs.declared.Plan.{Plan}
 
 -- ---- what a pass reads and does

@@ -12,8 +12,8 @@ use Rattle.pages.specs.declared.Port.{Port}
 use Rattle.pages.specs.declared.Port.the-variants as Port
 use Rattle.pages.specs.declared.Traits.{Traits}
 use Rattle.pages.specs.MultiplierPages.{tableAddress}
-use Rattle.regions.specs.Regions.{dataPresent, programPresent}
-use Rattle.slices.specs.Slices.{portSpent}
+use Rattle.board.specs.Regions.{dataPresent, programPresent}
+use Rattle.board.specs.Slices.{portSpent}
 use Rattle.steps.specs.Rows.{row, firstGiven}
 
 -- the addressed data word is read or written

@@ -13,8 +13,8 @@ use Rattle.instructions.specs.declared.Decoded.{Decoded}
 use Rattle.instructions.specs.declared.Decoded.the-variants.{Base, Published, Nothing}
 use Rattle.pages.specs.Traits.{traitsOf}
 use Rattle.pages.specs.Addressing.{addressOf}
-use Rattle.regions.specs.Regions.{programPresent}
-use Rattle.slices.specs.Slices.{slicesFit}
+use Rattle.board.specs.Regions.{programPresent}
+use Rattle.board.specs.Slices.{slicesFit}
 use Rattle.steps.specs.declared.Plan.{Plan}
 use Rattle.steps.specs.Rows.{Row, row, firstGiven}
 use Rattle.steps.specs.Refusals.{wrongPort, addressAbove, dataAbsent, tableAbsent, outputFull, passRefusal}

@@ -10,7 +10,7 @@ use Rattle.instructions.specs.declared.Decoded.{Decoded}
 use Rattle.instructions.specs.declared.Decoded.the-variants.{Base, Published, Nothing}
 use Rattle.pages.specs.Traits.{traitsOf}
 use Rattle.steps.specs.declared.Plan.{Plan}
-use Rattle.stores.specs.Stores.{dataAfter, outputAfter}
+use Rattle.steps.specs.Stores.{dataAfter, outputAfter}
 use Rattle.steps.specs.Pass.{performed, refused}
 use Rattle.steps.specs.World.{World, Outcome, RunOutcome}
 use Rattle.steps.specs.Table.{decodedAt, secondWord, refusalOf, checksOf}

@@ -28,20 +28,20 @@ use Rattle.instructions.specs.declared.Transfers.{Transfers}
 use Rattle.instructions.specs.declared.Transfers.the-variants as Transfers
 use Rattle.pages.specs.TransfersPages.{DMOV, IN, OUT}
 use Rattle.pages.specs.TransfersRule.{transfersRule}
-use Rattle.passes.specs.declared.Store.{Store}
-use Rattle.passes.specs.declared.Store.the-variants as Left
+use Rattle.pages.specs.declared.Store.{Store}
+use Rattle.pages.specs.declared.Store.the-variants as Left
 use Rattle.pages.specs.declared.Access.{Access}
 use Rattle.pages.specs.declared.Traits.{Traits}
 use Rattle.pages.specs.Traits.{accumulatorTraits, multiplierTraits, auxiliaryTraits, branchesTraits, transfersTraits, modesTraits, traitsOf}
 use Rattle.pages.specs.declared.Words.{Words}
 use Rattle.pages.specs.Rules.{ruleOf}
 use Rattle.pages.specs.Addressing.{addressOf}
-use Rattle.regions.specs.Regions.{dataPresent, moveAllowed}
-use Rattle.regions.specs.RegionLaws.{present-below, moves}
-use Rattle.stores.specs.declared.Write.{Write}
-use Rattle.stores.specs.declared.Write.the-variants as Write
+use Rattle.board.specs.Regions.{dataPresent, moveAllowed}
+use Rattle.board.specs.RegionLaws.{present-below, moves}
+use Rattle.steps.specs.declared.Write.{Write}
+use Rattle.steps.specs.declared.Write.the-variants as Write
 use Rattle.steps.specs.Refusals.{accesses, dataAbsent}
-use Rattle.stores.specs.Stores.{writeOf}
+use Rattle.steps.specs.Stores.{writeOf}
 use Rattle.steps.specs.Pass.{effectOf, passedWrite}
 
 -- a word is stored only where the page accesses its operand

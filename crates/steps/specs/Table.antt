@@ -3,7 +3,7 @@ use mathlib.Core.Bool.{Bool, true, false, not, cond, _&&_}
 use mathlib.Core.List.{List, [], _∷_}
 use Prim.Native.Nat.{ℕ}
 use lib.Dec.{ltb, eqb}
-use Rattle.registers.specs.Registers.{wrappedSum}
+use Rattle.alu.specs.Registers.{wrappedSum}
 use Rattle.machine.specs.declared.Machine.{Machine}
 use Rattle.machine.specs.Range.{inRange}
 use Rattle.answers.specs.declared.Answer.{Answer}
@@ -14,9 +14,9 @@ use Rattle.instructions.specs.declared.Decoded.the-variants.{Base, Published, N
 use Rattle.instructions.specs.Decode.{decodeOf}
 use Rattle.pages.specs.Traits.{traitsOf}
 use Rattle.pages.specs.Addressing.{addressOf}
-use Rattle.regions.specs.Regions.{programPresent}
-use Rattle.slices.specs.Slices.{slicesFit}
-use Rattle.windows.specs.Windows.{programWord}
+use Rattle.board.specs.Regions.{programPresent}
+use Rattle.board.specs.Slices.{slicesFit}
+use Rattle.board.specs.Windows.{programWord}
 use Rattle.steps.specs.Rows.{Row, row, firstGiven}
 use Rattle.steps.specs.Refusals.{wrongPort, addressAbove, dataAbsent, tableAbsent, outputFull}
 

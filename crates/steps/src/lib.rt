@@ -1,7 +1,13 @@
-// A pass, a step and a run as definitions, in specs/ alone: the functions that do them stand above. Here is only the type of a plan.
+// A pass, a step and a run as definitions, in specs/ alone: the functions that do them stand above. Here are only the types of a store and of a plan.
 use answers::Answer;
 use machine::Machine;
-use stores::Write;
+
+// The one store of a step. An address is that of document 01, before it is known to be on the board.
+pub enum Write {
+    Nothing,
+    Data(u32, u16),
+    Sent(u16, u16),
+}
 
 pub struct Plan {
     pub m: Machine,

@@ -1,15 +1,9 @@
 // The one store of a step, from what a page's rule leaves to be stored.
-use passes::Store;
+use pages::Store;
+use steps::Write;
 ghost use mathlib.Core.Path.{_≡_};
-ghost use Rattle.regions.specs.Regions.{moveAllowed};
-ghost use Rattle.stores.specs.Stores.{writeOf};
-
-// The one store of a step. An address is that of document 01, before it is known to be on the board.
-pub enum Write {
-    Nothing,
-    Data(u32, u16),
-    Sent(u16, u16),
-}
+ghost use Rattle.board.specs.Regions.{moveAllowed};
+ghost use Rattle.steps.specs.Stores.{writeOf};
 
 fn is_movable(cnf: u8, address: u32) -> bool
     ensures { λ r. ⌜ r ≡ moveAllowed cnf address ⌝ }

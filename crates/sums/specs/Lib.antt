@@ -1,4 +1,1 @@
--- definitions
-pub mod Sums
--- laws
 pub mod SumLaws

@@ -6,11 +6,11 @@ use native.Mathlib.Omega.{arith}
 use lib.Dec.{leb, ltb, eqb}
 use lib.IntN.{ℤ, pos, negsuc, subℕ, _+ℤ_, _-ℤ_}
 use borrow.Author.Tests.{lt-ltb, le-ltb, le-leb, lt-leb, leb-true, leb-false, ltb-true, ltb-false}
-use Rattle.words.specs.Whole.{up, dn, part, sub-is, add-is, minus-is, eq-from}
-use Rattle.words.specs.Word.{signed, low}
-use Rattle.words.specs.WordLaws.{signed-is, low-is}
-use Rattle.sums.specs.Sums.{holds, held, settled, carry, noBorrow, added, subtracted}
-use Rattle.sums.specs.declared.Sum.{Sum}
+use Rattle.alu.specs.Whole.{up, dn, part, sub-is, add-is, minus-is, eq-from}
+use Rattle.alu.specs.Word.{signed, low}
+use Rattle.alu.specs.WordLaws.{signed-is, low-is}
+use Rattle.alu.specs.Sums.{holds, held, settled, carry, noBorrow, added, subtracted}
+use Rattle.alu.specs.declared.Sum.{Sum}
 
 pub holds-in : (s : ℤ) → up s < 2 ^ 31 → dn s ≤ 2 ^ 31 → holds s ≡ true
 unfolding holds

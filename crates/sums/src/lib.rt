@@ -1,16 +1,10 @@
 // Sums and differences of the accumulator.
+use alu::Sum;
 ghost use mathlib.Core.Path.{_≡_};
 ghost use mathlib.Core.Bool.{cond};
 ghost use Prim.Native.Nat.{_<_, _^_};
-ghost use Rattle.sums.specs.Sums.{added, subtracted, settled};
+ghost use Rattle.alu.specs.Sums.{added, subtracted, settled};
 ghost use Rattle.sums.specs.SumLaws.{net, heldAs};
-
-// What a sum or a difference leaves in ACC, OV and C.
-pub struct Sum {
-    pub acc: u32,
-    pub ov: u8,
-    pub c: u8,
-}
 
 // ACC after an exact result that is over the largest number, under the smallest, or neither.
 fn held_word(low: u32, over: bool, under: bool, ovm: u8) -> u32

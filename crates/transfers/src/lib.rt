@@ -1,7 +1,7 @@
 // The pages of DMOV, IN and OUT, by value.
 use instructions::Transfers;
 use machine::Machine;
-use passes::Effect;
+use pages::Effect;
 use passes::copy_word;
 use passes::send_word;
 use passes::store_word;

@@ -1,6 +1,6 @@
 // What is shown of the lent slices: the fetch window and the words sent.
 ghost use mathlib.Core.Path.{_≡_};
-ghost use Rattle.windows.specs.Windows.{windowOf, windowAnswer, windowShown, wordsSentAnswer, wordsSent};
+ghost use Rattle.board.specs.Windows.{windowOf, windowAnswer, windowShown, wordsSentAnswer, wordsSent};
 use answers::Answer;
 use answers::is_done;
 use machine::Machine;

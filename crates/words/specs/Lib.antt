@@ -1,7 +1,1 @@
--- definitions
-pub mod Word
-pub mod Logic
--- laws
-pub mod Whole
-pub mod WordLaws
 pub mod LogicLaws

@@ -3,8 +3,8 @@ use mathlib.Core.Path.{_≡_, refl, _∙_, ap, ap₂}
 use Prim.Native.Nat.{ℕ, zero, suc, _+_, _*_, _/_, _%_, _^_, _<_, min, max}
 use native.Mathlib.Omega.{arith}
 use lib.Bits.{bitAnd, bitOr, bitXor, differ, and-step, or-step, xor-step}
-use Rattle.words.specs.Word.{highHalf, lowHalf, fromHalves}
-use Rattle.words.specs.Logic.{bitByBit, anded, ored, xored}
+use Rattle.alu.specs.Word.{highHalf, lowHalf, fromHalves}
+use Rattle.alu.specs.Logic.{bitByBit, anded, ored, xored}
 
 -- an operation g that goes by f on each two bits, from 0 on 0 and 0
 module _ (g f : ℕ → ℕ → ℕ) (step : (a b : ℕ) → g a b ≡ g (a / 2) (b / 2) * 2 + f (a % 2) (b % 2)) (none : g 0 0 ≡ 0) where

@@ -1,6 +1,6 @@
 // The halves of a 32-bit word, and a 16-bit word extended by its sign.
 ghost use mathlib.Core.Path.{_≡_};
-ghost use Rattle.words.specs.Word.{highHalf, lowHalf, fromHalves, signed, low};
+ghost use Rattle.alu.specs.Word.{highHalf, lowHalf, fromHalves, signed, low};
 
 pub fn high_half(w: u32) -> u16
     ensures { λ r. ⌜ r ≡ highHalf w ⌝ }

@@ -1,7 +1,7 @@
 // AND, OR, XOR and CMPL.
 use crate::bits;
 ghost use mathlib.Core.Path.{_≡_};
-ghost use Rattle.words.specs.Logic.{anded, ored, xored, complemented};
+ghost use Rattle.alu.specs.Logic.{anded, ored, xored, complemented};
 
 pub fn and_low(acc: u32, w: u16) -> u32
     ensures { λ r. ⌜ r ≡ anded acc w ⌝ }

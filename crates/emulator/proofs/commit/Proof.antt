@@ -1,5 +1,5 @@
 use mathlib.Core.Path.{refl}
-use Rattle.stores.specs.Stores.{dataAfter, outputAfter}
+use Rattle.steps.specs.Stores.{dataAfter, outputAfter}
 use borrow.Author.Needs.{needs}
 use Rattle.emulator.proofs.commit.Statement.{statement}
 use Rattle.emulator.proofs.commit.Tie as tie

@@ -1,5 +1,5 @@
 use mathlib.Core.Path.{_∙_}
-use Rattle.slices.specs.SliceLaws.{address-set}
+use Rattle.board.specs.SliceLaws.{address-set}
 use borrow.Author.Needs.{needs}
 use Rattle.emulator.proofs.store_data.Statement.{statement}
 use Rattle.emulator.proofs.store_data.Tie as tie

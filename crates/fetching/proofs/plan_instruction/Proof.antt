@@ -2,7 +2,7 @@ use mathlib.Core.Path.{_≡_}
 use mathlib.Core.Bool.{false, not, _&&_}
 use mathlib.Core.Logic.{⊎-elim}
 use lib.Dec.{eqb}
-use Rattle.regions.specs.Regions.{programPresent}
+use Rattle.board.specs.Regions.{programPresent}
 use Rattle.steps.specs.Stages.{instructionPlan}
 use Rattle.steps.specs.Table.{notRepeatable, secondAbsent, secondWord, secondAddress}
 use borrow.Author.Needs.{needs}

@@ -1,5 +1,5 @@
 use mathlib.Core.Path.{refl}
-use Rattle.page_sums.specs.PageSums.{inHighHalf}
+use Rattle.alu.specs.PageSums.{inHighHalf}
 use borrow.Author.Needs.{needs}
 use Rattle.page_sums.proofs.in_high_half.Statement.{statement}
 use Rattle.page_sums.proofs.in_high_half.Tie as tie

@@ -1,5 +1,5 @@
 use native.Mathlib.Omega.{arith}
-use Rattle.passes.specs.Passes.{followed, destination}
+use Rattle.pages.specs.Passes.{followed, destination}
 use Rattle.passes.specs.PassLaws.{pending}
 use borrow.Author.Needs.{needs}
 use Rattle.passes.proofs.follow.Statement.{statement}

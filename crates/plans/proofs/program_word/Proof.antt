@@ -1,6 +1,6 @@
 use mathlib.Core.Path.{sym}
 use native.Mathlib.Omega.{arith}
-use Rattle.windows.specs.Windows.{programWord}
+use Rattle.board.specs.Windows.{programWord}
 use lib.ListN.{List·getD-eq-default}
 use borrow.Author.Needs.{needs}
 use Rattle.plans.proofs.program_word.Statement.{statement}

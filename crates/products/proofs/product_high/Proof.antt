@@ -1,5 +1,5 @@
 use mathlib.Core.Path.{_∙_}
-use Rattle.products.specs.Products.{productHigh}
+use Rattle.alu.specs.Products.{productHigh}
 use borrow.Author.Needs.{needs}
 use Rattle.products.proofs.product_high.Statement.{statement}
 use Rattle.products.proofs.product_high.Tie as tie

@@ -1,5 +1,5 @@
 use mathlib.Core.Path.{_∙_}
-use Rattle.products.specs.Products.{productLow}
+use Rattle.alu.specs.Products.{productLow}
 use borrow.Author.Needs.{needs}
 use Rattle.products.proofs.product_low.Statement.{statement}
 use Rattle.products.proofs.product_low.Tie as tie

@@ -1,6 +1,6 @@
 use mathlib.Core.Path.{_∙_}
 use native.Mathlib.Omega.{arith}
-use Rattle.products.specs.Products.{shiftedProduct}
+use Rattle.alu.specs.Products.{shiftedProduct}
 use Rattle.products.specs.ProductLaws.{amount-le}
 use borrow.Author.Needs.{needs}
 use Rattle.products.proofs.shift_product.Statement.{statement}

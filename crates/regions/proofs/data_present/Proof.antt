@@ -1,4 +1,4 @@
-use Rattle.regions.specs.Regions.{dataPresent}
+use Rattle.board.specs.Regions.{dataPresent}
 use borrow.Author.Needs.{needs}
 use Rattle.regions.proofs.data_present.Statement.{statement}
 use Rattle.regions.proofs.data_present.Tie as tie

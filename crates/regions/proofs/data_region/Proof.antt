@@ -1,4 +1,4 @@
-use Rattle.regions.specs.Regions.{dataRegion}
+use Rattle.board.specs.Regions.{dataRegion}
 use Rattle.regions.proofs.data_region.Statement.{statement}
 use Rattle.regions.proofs.data_region.Tie as tie
 

@@ -1,7 +1,7 @@
 use mathlib.Core.Bool.{and-true}
 use native.Mathlib.Omega.{arith}
 use borrow.Author.Tests.{le-leb}
-use Rattle.regions.specs.Regions.{inProgramB0}
+use Rattle.board.specs.Regions.{inProgramB0}
 use Rattle.regions.proofs.in_program_b0.Statement.{statement}
 use Rattle.regions.proofs.in_program_b0.Tie as tie
 

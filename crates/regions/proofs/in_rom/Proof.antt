@@ -1,5 +1,5 @@
 use mathlib.Core.Path.{refl}
-use Rattle.regions.specs.Regions.{inRom}
+use Rattle.board.specs.Regions.{inRom}
 use Rattle.regions.proofs.in_rom.Statement.{statement}
 use Rattle.regions.proofs.in_rom.Tie as tie
 

@@ -1,4 +1,4 @@
-use Rattle.regions.specs.Regions.{moveAllowed, onChip, dataRegion}
+use Rattle.board.specs.Regions.{moveAllowed, onChip, dataRegion}
 use borrow.Author.Needs.{needs}
 use Rattle.regions.proofs.move_allowed.Statement.{statement}
 use Rattle.regions.proofs.move_allowed.Tie as tie

@@ -1,4 +1,4 @@
-use Rattle.regions.specs.Regions.{onChip}
+use Rattle.board.specs.Regions.{onChip}
 use borrow.Author.Needs.{needs}
 use Rattle.regions.proofs.on_chip.Statement.{statement}
 use Rattle.regions.proofs.on_chip.Tie as tie

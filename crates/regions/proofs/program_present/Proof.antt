@@ -1,4 +1,4 @@
-use Rattle.regions.specs.Regions.{programPresent}
+use Rattle.board.specs.Regions.{programPresent}
 use borrow.Author.Needs.{needs}
 use Rattle.regions.proofs.program_present.Statement.{statement}
 use Rattle.regions.proofs.program_present.Tie as tie

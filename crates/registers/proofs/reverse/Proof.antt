@@ -1,6 +1,6 @@
 use borrow.Author.Needs.{needs}
 use native.Mathlib.Omega.{arith}
-use Rattle.registers.specs.RegisterLaws.{Turned, turns-on, turned-over}
+use Rattle.alu.specs.RegisterLaws.{Turned, turns-on, turned-over}
 use Rattle.registers.proofs.reverse.Statement.{statement}
 use Rattle.registers.proofs.reverse.Tie as tie
 

@@ -1,5 +1,5 @@
 use mathlib.Core.Path.{_∙_}
-use Rattle.registers.specs.Registers.{reversedDifference}
+use Rattle.alu.specs.Registers.{reversedDifference}
 use borrow.Author.Needs.{needs}
 use Rattle.registers.proofs.reversed_difference.Statement.{statement}
 use Rattle.registers.proofs.reversed_difference.Tie as tie

@@ -1,5 +1,5 @@
 use mathlib.Core.Path.{_∙_}
-use Rattle.registers.specs.Registers.{reversedSum}
+use Rattle.alu.specs.Registers.{reversedSum}
 use borrow.Author.Needs.{needs}
 use Rattle.registers.proofs.reversed_sum.Statement.{statement}
 use Rattle.registers.proofs.reversed_sum.Tie as tie

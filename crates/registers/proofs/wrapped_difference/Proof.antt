@@ -1,5 +1,5 @@
 use native.Mathlib.Omega.{arith}
-use Rattle.registers.specs.RegisterLaws.{difference-is}
+use Rattle.alu.specs.RegisterLaws.{difference-is}
 use borrow.Author.Needs.{needs}
 use Rattle.registers.proofs.wrapped_difference.Statement.{statement}
 use Rattle.registers.proofs.wrapped_difference.Tie as tie

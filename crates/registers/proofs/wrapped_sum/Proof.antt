@@ -1,4 +1,4 @@
-use Rattle.registers.specs.Registers.{wrappedSum}
+use Rattle.alu.specs.Registers.{wrappedSum}
 use borrow.Author.Needs.{needs}
 use Rattle.registers.proofs.wrapped_sum.Statement.{statement}
 use Rattle.registers.proofs.wrapped_sum.Tie as tie

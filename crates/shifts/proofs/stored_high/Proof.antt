@@ -1,5 +1,5 @@
 use mathlib.Core.Path.{_∙_}
-use Rattle.shifts.specs.Shifts.{storedHigh}
+use Rattle.alu.specs.Shifts.{storedHigh}
 use borrow.Author.Needs.{needs}
 use Rattle.shifts.proofs.stored_high.Statement.{statement}
 use Rattle.shifts.proofs.stored_high.Tie as tie

@@ -1,6 +1,6 @@
 use native.Mathlib.Omega.{arith}
-use Rattle.words.specs.Word.{low}
-use Rattle.shifts.specs.Shifts.{unsignedOperand}
+use Rattle.alu.specs.Word.{low}
+use Rattle.alu.specs.Shifts.{unsignedOperand}
 use Rattle.shifts.proofs.unsigned_operand.Statement.{statement}
 use Rattle.shifts.proofs.unsigned_operand.Tie as tie
 

@@ -1,5 +1,5 @@
 use mathlib.Core.Path.{refl}
-use Rattle.slices.specs.Slices.{memoriesFit}
+use Rattle.board.specs.Slices.{memoriesFit}
 use Rattle.slices.proofs.memories_fit.Statement.{statement}
 use Rattle.slices.proofs.memories_fit.Tie as tie
 

@@ -1,4 +1,4 @@
-use Rattle.slices.specs.SliceLaws.{part-shown}
+use Rattle.board.specs.SliceLaws.{part-shown}
 use borrow.Author.Needs.{needs}
 use Rattle.slices.proofs.part.Statement.{statement}
 use Rattle.slices.proofs.part.Tie as tie

@@ -1,5 +1,5 @@
 use mathlib.Core.Path.{refl}
-use Rattle.slices.specs.Slices.{portFits}
+use Rattle.board.specs.Slices.{portFits}
 use Rattle.slices.proofs.port_fits.Statement.{statement}
 use Rattle.slices.proofs.port_fits.Tie as tie
 

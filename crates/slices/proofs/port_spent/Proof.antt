@@ -1,5 +1,5 @@
 use mathlib.Core.Path.{refl}
-use Rattle.slices.specs.Slices.{portSpent}
+use Rattle.board.specs.Slices.{portSpent}
 use Rattle.slices.proofs.port_spent.Statement.{statement}
 use Rattle.slices.proofs.port_spent.Tie as tie
 

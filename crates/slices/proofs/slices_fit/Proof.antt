@@ -1,4 +1,4 @@
-use Rattle.slices.specs.Slices.{slicesFit}
+use Rattle.board.specs.Slices.{slicesFit}
 use borrow.Author.Needs.{needs}
 use Rattle.slices.proofs.slices_fit.Statement.{statement}
 use Rattle.slices.proofs.slices_fit.Tie as tie

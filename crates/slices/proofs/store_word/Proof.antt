@@ -1,6 +1,6 @@
 use mathlib.Core.Path.{sym}
 use native.Mathlib.Omega.{arith}
-use Rattle.slices.specs.SliceLaws.{page-put, page-missing}
+use Rattle.board.specs.SliceLaws.{page-put, page-missing}
 use borrow.Author.Needs.{needs}
 use Rattle.slices.proofs.store_word.Statement.{statement}
 use Rattle.slices.proofs.store_word.Tie as tie

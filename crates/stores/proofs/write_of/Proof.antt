@@ -1,7 +1,7 @@
 use mathlib.Core.Path.{sym, _∙_}
 use native.Mathlib.Omega.{arith}
-use Rattle.stores.specs.Stores.{writeOf}
-use Rattle.regions.specs.RegionLaws.{moves}
+use Rattle.steps.specs.Stores.{writeOf}
+use Rattle.board.specs.RegionLaws.{moves}
 use borrow.Author.Needs.{needs}
 use Rattle.stores.proofs.write_of.Statement.{statement}
 use Rattle.stores.proofs.write_of.Tie as tie

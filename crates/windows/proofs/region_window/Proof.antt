@@ -1,6 +1,6 @@
 use mathlib.Core.Path.{sym, _∙_}
-use Rattle.windows.specs.Windows.{windowOf}
-use Rattle.regions.specs.RegionLaws.{program-b0}
+use Rattle.board.specs.Windows.{windowOf}
+use Rattle.board.specs.RegionLaws.{program-b0}
 use borrow.Author.Needs.{needs}
 use Rattle.windows.proofs.region_window.Statement.{statement}
 use Rattle.windows.proofs.region_window.Tie as tie

@@ -1,6 +1,6 @@
 use mathlib.Core.Path.{sym, ap, _∙_}
 use Rattle.answers.specs.Numbers.{isDone}
-use Rattle.windows.specs.Windows.{windowShown}
+use Rattle.board.specs.Windows.{windowShown}
 use borrow.Author.Needs.{needs}
 use Rattle.windows.proofs.window.Statement.{statement}
 use Rattle.windows.proofs.window.Tie as tie

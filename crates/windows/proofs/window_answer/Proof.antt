@@ -1,5 +1,5 @@
 use mathlib.Core.Path.{sym, _∙_}
-use Rattle.windows.specs.Windows.{windowAnswer}
+use Rattle.board.specs.Windows.{windowAnswer}
 use borrow.Author.Tests.{not-true, not-false}
 use borrow.Author.Needs.{needs}
 use Rattle.windows.proofs.window_answer.Statement.{statement}

@@ -1,8 +1,8 @@
 use mathlib.Core.Path.{sym, ap, _∙_}
 use Rattle.answers.specs.Numbers.{isDone}
 use lib.Seq.{length-take-le}
-use Rattle.windows.specs.Windows.{wordsSent}
-use Rattle.windows.specs.WindowLaws.{sent-done}
+use Rattle.board.specs.Windows.{wordsSent}
+use Rattle.board.specs.WindowLaws.{sent-done}
 use borrow.Author.Needs.{needs}
 use Rattle.windows.proofs.words_sent.Statement.{statement}
 use Rattle.windows.proofs.words_sent.Tie as tie

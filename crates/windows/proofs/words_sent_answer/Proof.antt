@@ -1,5 +1,5 @@
 use mathlib.Core.Path.{sym, _∙_}
-use Rattle.windows.specs.Windows.{wordsSentAnswer}
+use Rattle.board.specs.Windows.{wordsSentAnswer}
 use borrow.Author.Tests.{not-true, not-false}
 use borrow.Author.Needs.{needs}
 use Rattle.windows.proofs.words_sent_answer.Statement.{statement}

@@ -1,5 +1,5 @@
 use native.Mathlib.Omega.{arith}
-use Rattle.words.specs.WordLaws.{sign-extends}
+use Rattle.alu.specs.WordLaws.{sign-extends}
 use borrow.Author.Needs.{needs}
 use Rattle.words.proofs.bits.sign_extended.Statement.{statement}
 use Rattle.words.proofs.bits.sign_extended.Tie as tie

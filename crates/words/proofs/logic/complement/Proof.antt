@@ -1,5 +1,5 @@
 use mathlib.Core.Path.{refl}
-use Rattle.words.specs.Logic.{complemented}
+use Rattle.alu.specs.Logic.{complemented}
 use borrow.Author.Needs.{needs}
 use Rattle.words.proofs.logic.complement.Statement.{statement}
 use Rattle.words.proofs.logic.complement.Tie as tie

@@ -10,11 +10,11 @@ use lib.ListN.{length, take, drop, set, length-take, length-set}
 use lib.Seq.{slice, take-nil, set-out}
 use borrow.Author.Tests.{le-leb, lt-leb, leb-true, leb-false, eqb-true}
 use borrow.Rule.Slice.PartMut.{mid-len, post-is, put-same, set-mid-at, same-len-mid, take-put, drop-put}
-use Rattle.slices.specs.Slices.{memoriesFit, portFits, slicesFit, pagePart, pageStored}
-use Rattle.regions.specs.RegionLaws.{both}
+use Rattle.board.specs.Slices.{memoriesFit, portFits, slicesFit, pagePart, pageStored}
+use Rattle.board.specs.RegionLaws.{both}
 use Rattle.machine.specs.declared.Machine.{Machine}
-use Rattle.slices.specs.SliceFacts.{MemoriesFit, PortFits, SlicesFit}
-use Rattle.slices.specs.PageLent.{count, lent, written, rejoined}
+use Rattle.board.specs.SliceFacts.{MemoriesFit, PortFits, SlicesFit}
+use Rattle.board.specs.PageLent.{count, lent, written, rejoined}
 
 -- a part, by its start and how many words it has
 pub part-counted : (f t : ℕ) (l : List ℕ) → take (t - f) (drop f l) ≡ slice f t l

@@ -3,8 +3,8 @@ use mathlib.Core.Path.{_≡_}
 use Prim.Native.Nat.{ℕ, suc, _+_, _*_, _-_, _/_, _%_, _^_, _≤_, _<_}
 use native.Mathlib.Omega.{arith}
 use lib.IntN.{ℤ, pos, negsuc}
-use Rattle.words.specs.Whole.{up, dn, part, sub-is, eq-from}
-use Rattle.words.specs.Word.{signed, low}
+use Rattle.alu.specs.Whole.{up, dn, part, sub-is, eq-from}
+use Rattle.alu.specs.Word.{signed, low}
 
 -- the signed reading
 pub signed-is : (k w : ℕ) → up (signed k w) + 2 ^ k * (w / 2 ^ (k - 1)) ≡ w + dn (signed k w)

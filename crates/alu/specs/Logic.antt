@@ -1,7 +1,7 @@
 -- AND, OR, XOR on the lower half of the accumulator, and CMPL.
 use Prim.Native.Nat.{ℕ, zero, suc, _+_, _*_, _-_, _/_, _%_, _^_, min, max}
 use lib.Bits.{differ}
-use Rattle.words.specs.Word.{highHalf, lowHalf, fromHalves}
+use Rattle.alu.specs.Word.{highHalf, lowHalf, fromHalves}
 
 -- the k low bits of a and b, joined bit by bit by f
 unfoldable pub bitByBit : (ℕ → ℕ → ℕ) → ℕ → ℕ → ℕ → ℕ

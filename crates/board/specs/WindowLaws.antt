@@ -12,14 +12,14 @@ use Rattle.machine.specs.Range.{inRange}
 use Rattle.answers.specs.declared.Answer.{Answer}
 use Rattle.answers.specs.declared.Answer.the-variants.{Done, CellOutOfRange, SlicesUnfit, ProgramAbsent}
 use Rattle.answers.specs.Numbers.{isDone}
-use Rattle.regions.specs.Regions.{inRom, inProgramB0, programPresent}
-use Rattle.slices.specs.Slices.{memoriesFit, portFits}
-use Rattle.windows.specs.Windows.{windowOf, programWord, windowAnswer, windowShown, wordsSentAnswer, wordsSent}
-use Rattle.regions.specs.RegionLaws.{rom-below, program-b0}
-use Rattle.slices.specs.SliceLaws.{memories-fit, port-fits}
-use Rattle.regions.specs.RegionFacts.{InProgramB0}
-use Rattle.slices.specs.SliceFacts.{MemoriesFit}
-use Rattle.windows.specs.WindowFacts.{WindowDone, SentDone}
+use Rattle.board.specs.Regions.{inRom, inProgramB0, programPresent}
+use Rattle.board.specs.Slices.{memoriesFit, portFits}
+use Rattle.board.specs.Windows.{windowOf, programWord, windowAnswer, windowShown, wordsSentAnswer, wordsSent}
+use Rattle.board.specs.RegionLaws.{rom-below, program-b0}
+use Rattle.board.specs.SliceLaws.{memories-fit, port-fits}
+use Rattle.board.specs.RegionFacts.{InProgramB0}
+use Rattle.board.specs.SliceFacts.{MemoriesFit}
+use Rattle.board.specs.WindowFacts.{WindowDone, SentDone}
 
 -- ---- the window of an address
 

@@ -2,8 +2,8 @@
 use mathlib.Core.Bool.{Bool, true, false, cond, _&&_, _||_}
 use Prim.Native.Nat.{ℕ, _+_}
 use lib.Dec.{leb, ltb, eqb}
-use Rattle.regions.specs.declared.Region.{Region}
-use Rattle.regions.specs.declared.Region.the-variants.{Absent, B2, B0, B1, External}
+use Rattle.board.specs.declared.Region.{Region}
+use Rattle.board.specs.declared.Region.the-variants.{Absent, B2, B0, B1, External}
 
 abbrev pub within : ℕ → ℕ → ℕ → Bool
 within first last address = leb first address && leb address last

@@ -4,7 +4,7 @@ use Prim.Native.Nat.{ℕ, zero, suc, _+_, _*_, _-_, _/_, _%_, _^_, _≤_, _<_}
 use native.Mathlib.Omega.{arith}
 use native.Mathlib.Nat.{mul-le-mul-right, mul-le-mul-left, pow-suc}
 use lib.Pow.{pow-pos}
-use Rattle.registers.specs.Registers.{wrappedDifference, reversed}
+use Rattle.alu.specs.Registers.{wrappedDifference, reversed}
 
 pub difference-is : (a b r : ℕ) → a < 2 ^ 16 → b < 2 ^ 16 → r < 2 ^ 16 → (r + b) % 2 ^ 16 ≡ a → r ≡ wrappedDifference a b
 unfolding wrappedDifference

@@ -2,9 +2,9 @@
 use mathlib.Core.Path.{_≡_}
 use mathlib.Core.Bool.{true}
 use Prim.Native.Nat.{ℕ, _+_, _≤_, _<_}
-use Rattle.regions.specs.declared.Region.{Region}
-use Rattle.regions.specs.declared.Region.the-variants.{Absent, B2, B0, B1, External}
-use Rattle.regions.specs.Regions.{onChip}
+use Rattle.board.specs.declared.Region.{Region}
+use Rattle.board.specs.declared.Region.the-variants.{Absent, B2, B0, B1, External}
+use Rattle.board.specs.Regions.{onChip}
 
 -- what its region says of a data address
 abbrev pub Lies : ℕ → ℕ → Region → Type 0

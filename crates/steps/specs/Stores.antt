@@ -3,11 +3,11 @@ use mathlib.Core.Bool.{cond}
 use mathlib.Core.List.{List}
 use Prim.Native.Nat.{ℕ, _+_}
 use lib.ListN.{set}
-use Rattle.passes.specs.declared.Store.{Store}
-use Rattle.passes.specs.declared.Store.the-variants as Left
-use Rattle.regions.specs.Regions.{moveAllowed}
-use Rattle.stores.specs.declared.Write.{Write}
-use Rattle.stores.specs.declared.Write.the-variants.{Nothing, Data, Sent}
+use Rattle.pages.specs.declared.Store.{Store}
+use Rattle.pages.specs.declared.Store.the-variants as Left
+use Rattle.board.specs.Regions.{moveAllowed}
+use Rattle.steps.specs.declared.Write.{Write}
+use Rattle.steps.specs.declared.Write.the-variants.{Nothing, Data, Sent}
 
 -- The one store, for what a rule leaves to be stored at the operand's address by a machine with this CNF and output cursor. A data move: "the word is copied to the
 -- next address only where both addresses lie in on-chip blocks now in data space. Elsewhere nothing is moved and the rest happens."

@@ -9,8 +9,8 @@ use Rattle.machine.specs.Range.{inRange}
 use Rattle.answers.specs.declared.Answer.{Answer}
 use Rattle.answers.specs.declared.Answer.the-variants.{Done, CellOutOfRange, SlicesUnfit, ProgramAbsent}
 use Rattle.answers.specs.Numbers.{isDone}
-use Rattle.regions.specs.Regions.{inRom, inProgramB0, programPresent}
-use Rattle.slices.specs.Slices.{memoriesFit, portFits}
+use Rattle.board.specs.Regions.{inRom, inProgramB0, programPresent}
+use Rattle.board.specs.Slices.{memoriesFit, portFits}
 
 -- "the run of words from the asked program address to the end of its region, shown in whichever of the two lent memories holds it"; "it stays in the lent data slice at 0200h"
 unfoldable pub windowOf : ℕ → ℕ → List ℕ → List ℕ → List ℕ

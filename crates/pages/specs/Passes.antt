@@ -2,14 +2,14 @@
 use mathlib.Core.Bool.{Bool, cond, _&&_}
 use Prim.Native.Nat.{ℕ, _-_}
 use lib.Dec.{ltb}
-use Rattle.registers.specs.Registers.{wrappedSum}
+use Rattle.alu.specs.Registers.{wrappedSum}
 use Rattle.machine.specs.declared.Machine.{Machine}
-use Rattle.sums.specs.declared.Sum.{Sum}
+use Rattle.alu.specs.declared.Sum.{Sum}
 use Rattle.machine.specs.Cells.{withAcc, withOv, withC, withPc, withMid, withRptc}
-use Rattle.passes.specs.declared.Store.the-variants.{Nothing, Word, Move, Sent}
-use Rattle.passes.specs.declared.Jump.{Jump}
-use Rattle.passes.specs.declared.Jump.the-variants.{Past, To}
-use Rattle.passes.specs.declared.Effect.{Effect}
+use Rattle.pages.specs.declared.Store.the-variants.{Nothing, Word, Move, Sent}
+use Rattle.pages.specs.declared.Jump.{Jump}
+use Rattle.pages.specs.declared.Jump.the-variants.{Past, To}
+use Rattle.pages.specs.declared.Effect.{Effect}
 
 -- the cells that a sum or a difference leaves
 abbrev pub withSum : Machine → Sum → Machine

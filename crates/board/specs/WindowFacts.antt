@@ -6,9 +6,9 @@ use Prim.Native.Nat.{ℕ}
 use lib.ListN.{length}
 use Rattle.machine.specs.declared.Machine.{Machine}
 use Rattle.machine.specs.Range.{inRange}
-use Rattle.regions.specs.Regions.{programPresent}
-use Rattle.slices.specs.Slices.{memoriesFit}
-use Rattle.slices.specs.SliceFacts.{PortFits}
+use Rattle.board.specs.Regions.{programPresent}
+use Rattle.board.specs.Slices.{memoriesFit}
+use Rattle.board.specs.SliceFacts.{PortFits}
 
 -- asking for a window, or for the words sent, is answered by Done
 pub record WindowDone (m : Machine) (a : ℕ) (rom d : List ℕ) : Type 0 where

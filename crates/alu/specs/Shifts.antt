@@ -4,8 +4,8 @@ use Prim.Native.Nat.{ℕ, _*_, _/_, _%_, _^_}
 use lib.Dec.{eqb}
 use lib.IntN.{ℤ, pos, _*ℤ_}
 use lib.Signed.{shrZ}
-use Rattle.words.specs.Word.{signed, low}
-use Rattle.shifts.specs.declared.Shifted.{Shifted}
+use Rattle.alu.specs.Word.{signed, low}
+use Rattle.alu.specs.declared.Shifted.{Shifted}
 
 -- the word, "sign-extended if SXM = 1, else zero-extended"
 unfoldable pub extended : ℕ → ℕ → ℤ

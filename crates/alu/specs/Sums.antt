@@ -4,8 +4,8 @@ use Prim.Native.Nat.{ℕ, _+_, _/_, _^_}
 use lib.Dec.{leb, eqb}
 use lib.IntN.{ℤ, pos, negsuc, negℤ, _+ℤ_, _-ℤ_}
 use lib.Signed.{leZ, ltZ}
-use Rattle.words.specs.Word.{signed, low}
-use Rattle.sums.specs.declared.Sum.{Sum}
+use Rattle.alu.specs.Word.{signed, low}
+use Rattle.alu.specs.declared.Sum.{Sum}
 
 -- the exact result s is a signed number of 32 bits
 unfoldable pub holds : ℤ → Bool

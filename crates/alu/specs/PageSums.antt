@@ -3,9 +3,9 @@ use mathlib.Core.Bool.{cond}
 use Prim.Native.Nat.{ℕ, _+_, _*_, _%_, _^_}
 use lib.Dec.{ltb, eqb}
 use lib.IntN.{ℤ, pos, negℤ, _+ℤ_, _-ℤ_, natAbs}
-use Rattle.words.specs.Word.{signed, low}
-use Rattle.sums.specs.Sums.{holds, settled, carry, noBorrow}
-use Rattle.sums.specs.declared.Sum.{Sum}
+use Rattle.alu.specs.Word.{signed, low}
+use Rattle.alu.specs.Sums.{holds, settled, carry, noBorrow}
+use Rattle.alu.specs.declared.Sum.{Sum}
 
 -- the word in bits 31 to 16, as ZALH loads it and as ADDH and SUBH take it, whatever SXM is (ruling R17)
 unfoldable pub inHighHalf : ℕ → ℕ

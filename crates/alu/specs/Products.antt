@@ -2,7 +2,7 @@
 use Prim.Native.Nat.{ℕ, zero, suc, _*_, _%_, _^_}
 use lib.IntN.{ℤ, pos, _*ℤ_}
 use lib.Signed.{shrZ}
-use Rattle.words.specs.Word.{signed, low, highHalf, lowHalf}
+use Rattle.alu.specs.Word.{signed, low, highHalf, lowHalf}
 
 -- the exact product of two 16-bit words, read as signed
 unfoldable pub product : ℕ → ℕ → ℤ

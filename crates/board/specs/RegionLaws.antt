@@ -4,10 +4,10 @@ use mathlib.Core.Bool.{Bool, true, false, cond, _&&_, false≢true}
 use Prim.Native.Nat.{ℕ, _+_, _≤_, _<_}
 use native.Mathlib.Omega.{arith}
 use borrow.Author.Tests.{leb-true, ltb-true, eqb-true}
-use Rattle.regions.specs.declared.Region.{Region}
-use Rattle.regions.specs.declared.Region.the-variants.{Absent, B2, B0, B1, External}
-use Rattle.regions.specs.Regions.{within, dataRegion, present, onChipRegion, dataPresent, onChip, moveAllowed, inRom, inProgramB0, programPresent}
-use Rattle.regions.specs.RegionFacts.{Lies, Moves, InProgramB0}
+use Rattle.board.specs.declared.Region.{Region}
+use Rattle.board.specs.declared.Region.the-variants.{Absent, B2, B0, B1, External}
+use Rattle.board.specs.Regions.{within, dataRegion, present, onChipRegion, dataPresent, onChip, moveAllowed, inRom, inProgramB0, programPresent}
+use Rattle.board.specs.RegionFacts.{Lies, Moves, InProgramB0}
 
 pub both : (t u : Bool) → t && u ≡ true → (t ≡ true) × (u ≡ true)
 both true u h = (refl, h)

@@ -1,0 +1,12 @@
+pub mod Regions
+pub mod Slices
+pub mod Windows
+-- words of the laws
+pub mod RegionFacts
+pub mod SliceFacts
+pub mod WindowFacts
+pub mod PageLent
+-- laws
+pub mod RegionLaws
+pub mod SliceLaws
+pub mod WindowLaws

@@ -1,4 +1,0 @@
--- definitions
-pub mod Registers
--- laws
-pub mod RegisterLaws

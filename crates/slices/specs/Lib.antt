@@ -1,7 +1,0 @@
--- definitions
-pub mod Slices
--- words of the laws
-pub mod SliceFacts
-pub mod PageLent
--- laws
-pub mod SliceLaws
