@@ -5,10 +5,10 @@ ghost use Rattle.answers.specs.Numbers.{numberOf};
 ghost use Rattle.runfile.specs.Files.{readAnswer, readContents};
 ghost use Rattle.setting_up.specs.SetUp.{lent, setUpAnswer, setUp};
 ghost use Rattle.writing.specs.Writing.{contents, writeAnswer, written};
-ghost use Rattle.file_calls.specs.FileCalls.{writtenCount};
+ghost use Rattle.write_calls.specs.WriteCalls.{writtenCount};
 use file_calls::read_counts;
 use file_calls::set_up_slices;
-use file_calls::write_counted;
+use write_calls::write_counted;
 
 // What a run file asks for: the length of its input slice, and its budget.
 #[no_mangle]

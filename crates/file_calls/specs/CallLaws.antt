@@ -1,34 +1,12 @@
--- How the calls of each function make what its contract says.
-use mathlib.Core.Path.{_≡_, sym, ap, _∙_}
-use mathlib.Core.Bool.{true, false}
+-- How the calls of a function make what its contract says.
+use mathlib.Core.Path.{_≡_, ap}
 use mathlib.Core.List.{List}
 use Prim.Native.Nat.{ℕ}
 use lib.ListN.{length}
-use Rattle.answers.specs.Numbers.{isDone}
-use Rattle.answers.specs.NumberLaws.{done-is}
 use Rattle.runfile.specs.declared.reading.Head.{Head}
-use Rattle.runfile.specs.Files.{Contents, fileLength, withinLimits, readContents, headOf}
-use Rattle.runfile.specs.Facts.{CountsKept}
-use Rattle.runfile.specs.FileLaws.{counts-facts, file-length}
-use Rattle.writing.specs.Writing.{writeAnswer}
-use Rattle.writing.specs.WritingLaws.{write-facts}
-use Rattle.file_calls.specs.FileCalls.{writtenCount}
+use Rattle.runfile.specs.Files.{readContents, headOf}
 
 pub head-counts : (bytes : List ℕ) (head : Head) → head ≡ headOf (readContents bytes)
     → (head .«input_count» ≡ length (readContents bytes .input)) × (head .budget ≡ readContents bytes .budget)
 unfolding headOf
 head-counts bytes head e = (ap (λ (x : Head). x .«input_count») e, ap (λ (x : Head). x .budget) e)
-
-module _ (c : Contents) (bytes : List ℕ) where
-  pub none-written : isDone (writeAnswer c bytes) ≡ false → 0 ≡ writtenCount c bytes
-  unfolding writtenCount
-  none-written h = simp h
-
-  pub counts-written : isDone (writeAnswer c bytes) ≡ true → CountsKept (length (c .program)) (length (c .data-words)) (length (c .input))
-  unfolding withinLimits
-  counts-written h = counts-facts _ _ _ (write-facts c bytes (done-is _ h) .0)
-
-  pub bytes-written : isDone (writeAnswer c bytes) ≡ true → {n : ℕ} → n ≡ fileLength (length (c .program)) (length (c .data-words)) (length (c .input))
-      → n ≡ writtenCount c bytes
-  unfolding writtenCount
-  bytes-written h e = simp h (e ∙ sym (file-length c))

@@ -1,4 +1,2 @@
--- definitions
-pub mod FileCalls
 -- laws
 pub mod CallLaws

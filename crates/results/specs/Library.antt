@@ -13,8 +13,8 @@ use Rattle.cell_calls.proofs.put_step.Reads as PutStep
 use Rattle.cell_calls.proofs.put_run.Reads as PutRun
 use Rattle.file_calls.proofs.read_counts.Reads as ReadCounts
 use Rattle.file_calls.proofs.set_up_slices.Reads as SetUpSlices
-use Rattle.file_calls.proofs.write_counted.Reads as WriteCounted
-use Rattle.shown.proofs.sent.count_sent.Reads as CountSent
+use Rattle.write_calls.proofs.write_counted.Reads as WriteCounted
+use Rattle.sent_calls.proofs.count_sent.Reads as CountSent
 use Rattle.shown.proofs.window.place_window.Reads as PlaceWindow
 use Rattle.desktop.proofs.files.crowmitten_read.Reads as CrowmittenRead
 use Rattle.desktop.proofs.files.crowmitten_set_up.Reads as CrowmittenSetUp
@@ -25,7 +25,8 @@ use Rattle.desktop.proofs.running.crowmitten_run.Reads as CrowmittenRun
 use Rattle.desktop.proofs.sent.crowmitten_words_sent.Reads as CrowmittenWordsSent
 use Rattle.desktop.proofs.window.crowmitten_window.Reads as CrowmittenWindow
 use Rattle.setting_up.specs.SetUp.{lent}
-use Rattle.shown.specs.Shown.{counted, placed}
+use Rattle.sent_calls.specs.Sent.{counted}
+use Rattle.shown.specs.Shown.{placed}
 use Rattle.desktop.specs.Calls.{Called, RunCalled, called}
 use Prim.Native.Nat.{ℕ}
 use denote.Ref.{now}

@@ -9,30 +9,21 @@ use Rattle.answers.specs.declared.Answer.{Answer}
 use Rattle.answers.specs.Numbers.{numberOf, isDone}
 use Rattle.board.specs.Regions.{inRom, programPresent}
 use Rattle.board.specs.RegionLaws.{program-b0}
-use Rattle.board.specs.Windows.{windowAnswer, windowShown, wordsSentAnswer, wordsSent}
+use Rattle.board.specs.Windows.{windowAnswer, windowShown}
 use Rattle.board.specs.WindowLaws.{window-done}
 use Rattle.cells.specs.Cells.{machineOf}
 use Rattle.cells.specs.Checks.{cellsAnswer}
 use Rattle.shown.specs.declared.window.Place.{Place}
-use Rattle.shown.specs.Shown.{counted, sentCalled, placeOf, placed, windowCalled}
+use Rattle.shown.specs.Shown.{placeOf, placed, windowCalled}
 
 module _ (cells : List ℕ) where
   -- cells that are refused: their answer's number, and nothing else
   module _ {found : Answer} {n : ℕ} (e : found ≡ cellsAnswer cells) (h : isDone (cellsAnswer cells) ≡ false) (k : n ≡ numberOf found) where
-    pub sent-refused : (o : List ℕ) → counted n 0 ≡ sentCalled cells o
-    unfolding sentCalled
-    sent-refused o = simp h (rw (k, e))
-
     pub window-refused : (rom d : List ℕ) (address : ℕ) → placed n 0 0 0 ≡ windowCalled cells address rom d
     unfolding windowCalled
     window-refused rom d address = simp h (rw (k, e))
 
   module _ {m : Machine} (h : isDone (cellsAnswer cells) ≡ true) (e : m ≡ machineOf cells) where
-    pub sent-made : (o : List ℕ) {part : List ℕ} {found : Answer} {n : ℕ} → part ≡ wordsSent m o → found ≡ wordsSentAnswer m o → n ≡ numberOf found
-        → counted n (length part) ≡ sentCalled cells o
-    unfolding sentCalled
-    sent-made o p f k = simp h (rw (k, f, p, e))
-
     pub window-made : (rom d : List ℕ) (address : ℕ) (p : Place) {found : Answer} {n : ℕ} → p ≡ placeOf m address rom d → found ≡ windowAnswer m address rom d
         → n ≡ numberOf found → placed n (p .memory) (p .from) (p .count) ≡ windowCalled cells address rom d
     unfolding windowCalled

@@ -1,4 +1,4 @@
--- The words sent and the fetch window of a machine in numbers: how many words are meant, and where they stand; or a refusal of the cells.
+-- The fetch window of a machine in numbers: how many words are meant, and where they stand; or a refusal of the cells.
 use mathlib.Core.Bool.{cond}
 use mathlib.Core.List.{List}
 use Prim.Native.Nat.{ℕ, _+_, _-_}
@@ -6,28 +6,10 @@ use lib.ListN.{length}
 use Rattle.machine.specs.declared.Machine.{Machine}
 use Rattle.answers.specs.Numbers.{numberOf, isDone}
 use Rattle.board.specs.Regions.{inRom}
-use Rattle.board.specs.Windows.{windowAnswer, windowShown, wordsSentAnswer, wordsSent}
+use Rattle.board.specs.Windows.{windowAnswer, windowShown}
 use Rattle.cells.specs.Cells.{machineOf}
 use Rattle.cells.specs.Checks.{cellsAnswer}
 use Rattle.shown.specs.declared.window.Place.{Place}
-
--- ---- the words sent
-
--- an answer, and how many words are meant
-pub record Counted : Type 0 where
-  pub answer : ℕ
-  pub count : ℕ
-
-abbrev pub counted : ℕ → ℕ → Counted
-counted answer count = record { answer = answer; count = count }
-
-unfoldable pub sentCalled : List ℕ → List ℕ → Counted
-sentCalled cells output =
-    cond (isDone (cellsAnswer cells))
-    (counted (numberOf (wordsSentAnswer (machineOf cells) output)) (length (wordsSent (machineOf cells) output)))
-    (counted (numberOf (cellsAnswer cells)) 0)
-
--- ---- the fetch window
 
 -- where a window stands: in no memory on a refusal
 abbrev pub noPlace : Place

@@ -1,43 +1,20 @@
--- What the numbers of a call point at: the words sent are the first of the output slice, and the place of a window holds the window.
+-- What the numbers of a call point at: the place of a window holds the window.
 use mathlib.Core.Path.{_≡_, refl, sym}
 use mathlib.Core.Bool.{Bool, true, false, cond}
 use mathlib.Core.List.{List, []}
 use Prim.Native.Nat.{ℕ, _+_, _-_}
 use native.Mathlib.Omega.{arith}
 use lib.Dec.{eqb}
-use lib.ListN.{length, take}
 use lib.Seq.{slice}
 use Rattle.machine.specs.declared.Machine.{Machine}
 use Rattle.answers.specs.Numbers.{isDone}
 use Rattle.board.specs.Regions.{inRom, inProgramB0, programPresent}
 use Rattle.board.specs.RegionLaws.{rom-below, program-b0}
 use Rattle.board.specs.SliceLaws.{memories-fit}
-use Rattle.board.specs.Windows.{windowOf, windowAnswer, windowShown, wordsSentAnswer, wordsSent}
-use Rattle.board.specs.WindowLaws.{window-done, rom-window-length, b0-window-length, sent-length, refused-sent}
-use Rattle.cells.specs.Cells.{machineOf}
-use Rattle.cells.specs.Checks.{cellsAnswer}
+use Rattle.board.specs.Windows.{windowOf, windowAnswer, windowShown}
+use Rattle.board.specs.WindowLaws.{window-done, rom-window-length, b0-window-length}
 use Rattle.shown.specs.declared.window.Place.{Place}
-use Rattle.shown.specs.Shown.{placeOf, sentCalled}
-
--- ---- the words sent
-
-sent-words : (m : Machine) (output : List ℕ) → isDone (wordsSentAnswer m output) ≡ true → wordsSent m output ≡ take (m .«output_cursor») output
-unfolding wordsSent
-sent-words m output h = simp h
-
-first-words : (m : Machine) (output : List ℕ) → take (length (wordsSent m output)) output ≡ wordsSent m output
-first-words m output = by (isDone (wordsSentAnswer m output)) refl
-  where
-    by : (t : Bool) → isDone (wordsSentAnswer m output) ≡ t → take (length (wordsSent m output)) output ≡ wordsSent m output
-    by true e = rw (sent-length m output e) (sym (sent-words m output e))
-    by false e = rw (refused-sent m output e)
-
--- "the words sent so far can be asked for as a part of the caller's own slice": the first of output, as many as the call counts
-pub sent-are-first : (cells output : List ℕ) → isDone (cellsAnswer cells) ≡ true → take (sentCalled cells output .count) output ≡ wordsSent (machineOf cells) output
-unfolding sentCalled
-sent-are-first cells output h = simp h (first-words (machineOf cells) output)
-
--- ---- the fetch window
+use Rattle.shown.specs.Shown.{placeOf}
 
 -- the words at a place
 unfoldable pub wordsIn : Place → List ℕ → List ℕ → List ℕ

@@ -1,3 +1,2 @@
-// The words sent and the fetch window of a machine in numbers.
-pub mod sent;
+// The fetch window of a machine in numbers.
 pub mod window;

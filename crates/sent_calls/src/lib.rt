@@ -1,6 +1,6 @@
-// The words sent.
+// The words sent of a machine in numbers.
 ghost use mathlib.Core.Path.{_≡_};
-ghost use Rattle.shown.specs.Shown.{counted, sentCalled};
+ghost use Rattle.sent_calls.specs.Sent.{counted, sentCalled};
 use answers::is_done;
 use cell_reading::machine_of;
 use cells::cells_answer;

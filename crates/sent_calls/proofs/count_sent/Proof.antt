@@ -1,9 +1,9 @@
-use Rattle.shown.specs.CallLaws.{sent-refused, sent-made}
+use Rattle.sent_calls.specs.CallLaws.{sent-refused, sent-made}
 use Rattle.answers.specs.NumberLaws.{told}
 use borrow.Author.Tests.{not-true, not-false}
 use borrow.Author.Needs.{needs}
-use Rattle.shown.proofs.sent.count_sent.Statement.{statement}
-use Rattle.shown.proofs.sent.count_sent.Tie as tie
+use Rattle.sent_calls.proofs.count_sent.Statement.{statement}
+use Rattle.sent_calls.proofs.count_sent.Tie as tie
 
 cells-answer-requires : tie.Need-cells-answer-requires
 cells-answer-requires c κs = search needs

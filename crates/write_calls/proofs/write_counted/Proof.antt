@@ -1,11 +1,11 @@
-use Rattle.file_calls.specs.CallLaws.{none-written, counts-written, bytes-written}
+use Rattle.write_calls.specs.CallLaws.{none-written, counts-written, bytes-written}
 use Rattle.answers.specs.NumberLaws.{told}
 use borrow.Author.Tests.{not-true, not-false}
 use mathlib.Core.Path.{ap, _∙_}
 use Rattle.answers.specs.Numbers.{numberOf}
 use borrow.Author.Needs.{needs}
-use Rattle.file_calls.proofs.write_counted.Statement.{statement}
-use Rattle.file_calls.proofs.write_counted.Tie as tie
+use Rattle.write_calls.proofs.write_counted.Statement.{statement}
+use Rattle.write_calls.proofs.write_counted.Tie as tie
 
 write-file-requires : tie.Need-write-file-requires
 write-file-requires c κs = search needs

@@ -1,0 +1,5 @@
+-- definitions
+pub mod Sent
+-- laws
+pub mod CallLaws
+pub mod SentLaws

@@ -1,0 +1,4 @@
+-- definitions
+pub mod WriteCalls
+-- laws
+pub mod CallLaws
