@@ -1,4 +1,4 @@
-// Auxiliary registers by number, the address of an operand, and the modification that an indirect operand asks for.
+// Auxiliary registers by number, the address of an operand and of a table word, and the modification that an indirect operand asks for.
 
 use dma::Address;
 use dma::Indirect;
@@ -10,6 +10,7 @@ ghost use mathlib.Core.Path.{_≡_};
 ghost use mathlib.Core.Bool.{cond};
 ghost use Rattle.machine.specs.Cells.{register, withRegister};
 ghost use Rattle.pages.specs.Addressing.{moved, pointed, modified, addressed, addressOf};
+ghost use Rattle.pages.specs.MultiplierPages.{tableAddress};
 
 pub fn register_of(m: Machine, i: u8) -> u16
     ensures { λ r. ⌜ r ≡ register m i ⌝ }
@@ -108,4 +109,11 @@ pub fn address_of(m: Machine, operand: Operand) -> u32
             Address::Indirect(_) => register_of(m, m.arp) as u32,
         },
     }
+}
+
+// The program address that a MAC or MACD reads its table word at.
+pub fn table_address(m: Machine, second: u16) -> u16
+    ensures { λ r. ⌜ r ≡ tableAddress m second ⌝ }
+{
+    if m.mid == 0 { second } else { m.pfc }
 }

@@ -8,7 +8,7 @@ use passes::store_word;
 use passes::with_sum;
 ghost use mathlib.Core.Path.{_≡_};
 ghost use Rattle.machine.specs.Cells.{withP, withT};
-ghost use Rattle.pages.specs.MultiplierPages.{LT, LTA, LTP, LTD, LTS, MPY, MPYA, MPYS, MPYK, SQRA, SQRS, MAC, MACD, PAC, APAC, SPAC, SPL, SPH, SPM, tableAddress};
+ghost use Rattle.pages.specs.MultiplierPages.{LT, LTA, LTP, LTD, LTS, MPY, MPYA, MPYS, MPYK, SQRA, SQRS, MAC, MACD, PAC, APAC, SPAC, SPL, SPH, SPM};
 ghost use Rattle.pages.specs.MultiplierRule.{multiplierRule};
 
 fn with_t(m: Machine, t: u16) -> Machine
@@ -25,13 +25,6 @@ fn with_p(m: Machine, p: u32) -> Machine
     let mut n = m;
     n.p = p;
     n
-}
-
-// The program address that a MAC or MACD reads its table word at.
-pub fn table_address(m: Machine, second: u16) -> u16
-    ensures { λ r. ⌜ r ≡ tableAddress m second ⌝ }
-{
-    if m.mid == 0 { second } else { m.pfc }
 }
 
 fn pac(m: Machine) -> Machine

@@ -1,11 +1,11 @@
 // One pass of a decoded instruction, by value: what it reads and does, and its plan.
 use addressing::address_of;
 use addressing::after_operand;
+use addressing::table_address;
 use answers::Answer;
 use answers::is_done;
 use instructions::Instruction;
 use machine::Machine;
-use multiplier::table_address;
 use pages::Access;
 use pages::Traits;
 use pages::Words;

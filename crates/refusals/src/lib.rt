@@ -1,7 +1,7 @@
 // The plan of a refused step, and what refuses a pass of a decoded instruction: the last rows of the order of the answers.
+use addressing::table_address;
 use answers::Answer;
 use machine::Machine;
-use multiplier::table_address;
 use pages::Access;
 use pages::Port;
 use pages::Traits;

@@ -1,6 +1,6 @@
 -- One possible result of each exported function: the pages.
 use Rattle.accumulator.proofs.rule.Reads as AccumulatorRule
-use Rattle.multiplier.proofs.table_address.Reads as TableAddress
+use Rattle.addressing.proofs.table_address.Reads as TableAddress
 use Rattle.multiplier.proofs.rule.Reads as MultiplierRule
 use Rattle.auxiliary.proofs.rule.Reads as AuxiliaryRule
 use Rattle.branches.proofs.rule.Reads as BranchesRule

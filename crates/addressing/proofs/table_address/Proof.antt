@@ -1,7 +1,7 @@
 use borrow.Author.Tests.{eq-eqb, ne-eqb}
 use Rattle.pages.specs.MultiplierPages.{tableAddress}
-use Rattle.multiplier.proofs.table_address.Statement.{statement}
-use Rattle.multiplier.proofs.table_address.Tie as tie
+use Rattle.addressing.proofs.table_address.Statement.{statement}
+use Rattle.addressing.proofs.table_address.Tie as tie
 
 returns : tie.Need-returns
 unfolding tableAddress
