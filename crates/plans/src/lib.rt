@@ -7,17 +7,18 @@ use answers::is_done;
 use instructions::Instruction;
 use machine::Machine;
 use pages::Access;
+use pages::Effect;
 use pages::Traits;
 use pages::Words;
 use passes::follow;
 use refusals::pass_refusal;
 use refusals::refuse;
-use rules::rule;
 use steps::Plan;
 use stores::write_of;
 ghost use mathlib.Core.Path.{_≡_};
 ghost use lib.ListN.{getD};
 ghost use Rattle.pages.specs.Addressing.{addressOf};
+ghost use Rattle.pages.specs.Rules.{ruleOf};
 ghost use Rattle.board.specs.Windows.{programWord};
 ghost use Rattle.steps.specs.Pass.{readWord, wordsRead, performed, passPlan};
 
@@ -81,6 +82,24 @@ fn words_read<'a>(
         at,
         next,
         dry,
+    }
+}
+
+// One rule for every instruction of the base, by its family.
+pub fn rule(i: Instruction, before: Machine, m: Machine, words: Words) -> Effect
+    ensures { λ r. ⌜ r ≡ ruleOf i before m words ⌝ }
+{
+    match i {
+        Instruction::Accumulator(page) => accumulator::rule(page, m, words.operand),
+        Instruction::Multiplier(page) => {
+            multiplier::rule(page, m, words.operand, words.table, words.at)
+        }
+        Instruction::Auxiliary(page) => auxiliary::rule(page, before, m, words.operand),
+        Instruction::Branches(page) => branches::rule(page, before, m, words.second),
+        Instruction::Transfers(page) => {
+            transfers::rule(page, m, words.operand, words.dry, words.next)
+        }
+        Instruction::Modes(page) => modes::rule(page, m, words.operand),
     }
 }
 

@@ -6,7 +6,7 @@ use Rattle.auxiliary.proofs.rule.Reads as AuxiliaryRule
 use Rattle.branches.proofs.rule.Reads as BranchesRule
 use Rattle.transfers.proofs.rule.Reads as TransfersRule
 use Rattle.modes.proofs.rule.Reads as ModesRule
-use Rattle.rules.proofs.rule.Reads as RulesRule
+use Rattle.plans.proofs.rule.Reads as RulesRule
 use Rattle.results.specs.One.{OneResult, same}
 
 pub accumulator-rule : OneResult AccumulatorRule.Post

@@ -1,7 +1,7 @@
 use Rattle.pages.specs.Rules.{ruleOf}
 use borrow.Author.Needs.{needs}
-use Rattle.rules.proofs.rule.Statement.{statement}
-use Rattle.rules.proofs.rule.Tie as tie
+use Rattle.plans.proofs.rule.Statement.{statement}
+use Rattle.plans.proofs.rule.Tie as tie
 
 enum-known-i : tie.Need-enum-known-i
 enum-known-i c = search needs
