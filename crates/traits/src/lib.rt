@@ -149,20 +149,21 @@ fn accumulator_traits(i: Accumulator) -> Traits
     ensures { λ r. ⌜ r ≡ accumulatorTraits i ⌝ }
 {
     match i {
-        Accumulator::Add(_, a)
-        | Accumulator::Sub(_, a)
-        | Accumulator::Lac(_, a)
-        | Accumulator::Addh(a)
-        | Accumulator::Adds(a)
-        | Accumulator::Subh(a)
-        | Accumulator::Subs(a)
-        | Accumulator::Subc(a)
-        | Accumulator::Zalh(a)
-        | Accumulator::Zals(a)
-        | Accumulator::And(a)
-        | Accumulator::Or(a)
-        | Accumulator::Xor(a) => reading_traits(a),
-        Accumulator::Sacl(_, a) | Accumulator::Sach(_, a) => writing_traits(a),
+        Accumulator::Add(_, a) => reading_traits(a),
+        Accumulator::Sub(_, a) => reading_traits(a),
+        Accumulator::Lac(_, a) => reading_traits(a),
+        Accumulator::Addh(a) => reading_traits(a),
+        Accumulator::Adds(a) => reading_traits(a),
+        Accumulator::Subh(a) => reading_traits(a),
+        Accumulator::Subs(a) => reading_traits(a),
+        Accumulator::Subc(a) => reading_traits(a),
+        Accumulator::Zalh(a) => reading_traits(a),
+        Accumulator::Zals(a) => reading_traits(a),
+        Accumulator::And(a) => reading_traits(a),
+        Accumulator::Or(a) => reading_traits(a),
+        Accumulator::Xor(a) => reading_traits(a),
+        Accumulator::Sacl(_, a) => writing_traits(a),
+        Accumulator::Sach(_, a) => writing_traits(a),
         Accumulator::Lack(_) => constant_traits(),
         Accumulator::Addk(_) => constant_traits(),
         Accumulator::Subk(_) => constant_traits(),
@@ -178,22 +179,24 @@ fn multiplier_traits(i: Multiplier) -> Traits
     ensures { λ r. ⌜ r ≡ multiplierTraits i ⌝ }
 {
     match i {
-        Multiplier::Lt(a)
-        | Multiplier::Lta(a)
-        | Multiplier::Ltp(a)
-        | Multiplier::Ltd(a)
-        | Multiplier::Lts(a)
-        | Multiplier::Mpy(a)
-        | Multiplier::Mpya(a)
-        | Multiplier::Mpys(a)
-        | Multiplier::Sqra(a)
-        | Multiplier::Sqrs(a) => reading_traits(a),
+        Multiplier::Lt(a) => reading_traits(a),
+        Multiplier::Lta(a) => reading_traits(a),
+        Multiplier::Ltp(a) => reading_traits(a),
+        Multiplier::Ltd(a) => reading_traits(a),
+        Multiplier::Lts(a) => reading_traits(a),
+        Multiplier::Mpy(a) => reading_traits(a),
+        Multiplier::Mpya(a) => reading_traits(a),
+        Multiplier::Mpys(a) => reading_traits(a),
         Multiplier::Mpyk(_) => constant_traits(),
-        Multiplier::Mac(a) | Multiplier::Macd(a) => tabled_traits(a),
+        Multiplier::Sqra(a) => reading_traits(a),
+        Multiplier::Sqrs(a) => reading_traits(a),
+        Multiplier::Mac(a) => tabled_traits(a),
+        Multiplier::Macd(a) => tabled_traits(a),
         Multiplier::Pac => plain_traits(),
         Multiplier::Apac => plain_traits(),
         Multiplier::Spac => plain_traits(),
-        Multiplier::Spl(a) | Multiplier::Sph(a) => writing_traits(a),
+        Multiplier::Spl(a) => writing_traits(a),
+        Multiplier::Sph(a) => writing_traits(a),
         Multiplier::Spm(_) => constant_traits(),
     }
 }
@@ -217,17 +220,17 @@ fn branches_traits(i: Branches) -> Traits
     ensures { λ r. ⌜ r ≡ branchesTraits i ⌝ }
 {
     match i {
-        Branches::B(indirect)
-        | Branches::Banz(indirect)
-        | Branches::Bz(indirect)
-        | Branches::Bnz(indirect)
-        | Branches::Bgz(indirect)
-        | Branches::Bgez(indirect)
-        | Branches::Blz(indirect)
-        | Branches::Blez(indirect)
-        | Branches::Bv(indirect)
-        | Branches::Bnv(indirect)
-        | Branches::Call(indirect) => branching_traits(indirect),
+        Branches::B(indirect) => branching_traits(indirect),
+        Branches::Banz(indirect) => branching_traits(indirect),
+        Branches::Bz(indirect) => branching_traits(indirect),
+        Branches::Bnz(indirect) => branching_traits(indirect),
+        Branches::Bgz(indirect) => branching_traits(indirect),
+        Branches::Bgez(indirect) => branching_traits(indirect),
+        Branches::Blz(indirect) => branching_traits(indirect),
+        Branches::Blez(indirect) => branching_traits(indirect),
+        Branches::Bv(indirect) => branching_traits(indirect),
+        Branches::Bnv(indirect) => branching_traits(indirect),
+        Branches::Call(indirect) => branching_traits(indirect),
         Branches::Ret => constant_traits(),
     }
 }
