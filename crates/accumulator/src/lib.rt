@@ -3,8 +3,8 @@ use alu::Shifted;
 use instructions::Accumulator;
 use machine::Machine;
 use pages::Effect;
-use passes::keep;
-use passes::store_word;
+use pages::Jump;
+use pages::Store;
 use passes::with_sum;
 use words::logic;
 ghost use mathlib.Core.Path.{_≡_};
@@ -186,29 +186,36 @@ fn sfr(m: Machine) -> Machine
 pub fn rule(i: Accumulator, m: Machine, w: u16) -> Effect
     ensures { λ r. ⌜ r ≡ accumulatorRule i m w ⌝ }
 {
+    let mut n = m;
+    let mut store = Store::Nothing;
     match i {
-        Accumulator::Add(shift, _) => keep(add(m, shift, w)),
-        Accumulator::Sub(shift, _) => keep(sub(m, shift, w)),
-        Accumulator::Lac(shift, _) => keep(lac(m, shift, w)),
-        Accumulator::Addh(_) => keep(addh(m, w)),
-        Accumulator::Adds(_) => keep(adds(m, w)),
-        Accumulator::Subh(_) => keep(subh(m, w)),
-        Accumulator::Subs(_) => keep(subs(m, w)),
-        Accumulator::Subc(_) => keep(subc(m, w)),
-        Accumulator::Zalh(_) => keep(zalh(m, w)),
-        Accumulator::Zals(_) => keep(zals(m, w)),
-        Accumulator::And(_) => keep(and(m, w)),
-        Accumulator::Or(_) => keep(or(m, w)),
-        Accumulator::Xor(_) => keep(xor(m, w)),
-        Accumulator::Sacl(shift, _) => store_word(m, sacl(m, shift)),
-        Accumulator::Sach(shift, _) => store_word(m, sach(m, shift)),
-        Accumulator::Lack(k) => keep(lack(m, k)),
-        Accumulator::Addk(k) => keep(addk(m, k)),
-        Accumulator::Subk(k) => keep(subk(m, k)),
-        Accumulator::Cmpl => keep(cmpl(m)),
-        Accumulator::Neg => keep(neg(m)),
-        Accumulator::Abs => keep(abs(m)),
-        Accumulator::Sfl => keep(sfl(m)),
-        Accumulator::Sfr => keep(sfr(m)),
+        Accumulator::Add(shift, _) => n = add(n, shift, w),
+        Accumulator::Sub(shift, _) => n = sub(n, shift, w),
+        Accumulator::Lac(shift, _) => n = lac(n, shift, w),
+        Accumulator::Addh(_) => n = addh(n, w),
+        Accumulator::Adds(_) => n = adds(n, w),
+        Accumulator::Subh(_) => n = subh(n, w),
+        Accumulator::Subs(_) => n = subs(n, w),
+        Accumulator::Subc(_) => n = subc(n, w),
+        Accumulator::Zalh(_) => n = zalh(n, w),
+        Accumulator::Zals(_) => n = zals(n, w),
+        Accumulator::And(_) => n = and(n, w),
+        Accumulator::Or(_) => n = or(n, w),
+        Accumulator::Xor(_) => n = xor(n, w),
+        Accumulator::Sacl(shift, _) => store = Store::Word(sacl(n, shift)),
+        Accumulator::Sach(shift, _) => store = Store::Word(sach(n, shift)),
+        Accumulator::Lack(k) => n = lack(n, k),
+        Accumulator::Addk(k) => n = addk(n, k),
+        Accumulator::Subk(k) => n = subk(n, k),
+        Accumulator::Cmpl => n = cmpl(n),
+        Accumulator::Neg => n = neg(n),
+        Accumulator::Abs => n = abs(n),
+        Accumulator::Sfl => n = sfl(n),
+        Accumulator::Sfr => n = sfr(n),
+    }
+    Effect {
+        m: n,
+        store,
+        jump: Jump::Past,
     }
 }

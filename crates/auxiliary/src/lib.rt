@@ -4,8 +4,8 @@ use addressing::with_register;
 use instructions::Auxiliary;
 use machine::Machine;
 use pages::Effect;
-use passes::keep;
-use passes::store_word;
+use pages::Jump;
+use pages::Store;
 ghost use mathlib.Core.Path.{_≡_};
 ghost use Rattle.pages.specs.AuxiliaryPages.{LAR, SAR, LARK, MAR, ADRK, SBRK, LDP, LDPK};
 ghost use Rattle.pages.specs.AuxiliaryRule.{auxiliaryRule};
@@ -74,14 +74,21 @@ fn ldpk(m: Machine, k: u16) -> Machine
 pub fn rule(i: Auxiliary, before: Machine, m: Machine, w: u16) -> Effect
     ensures { λ r. ⌜ r ≡ auxiliaryRule i before m w ⌝ }
 {
+    let mut n = m;
+    let mut store = Store::Nothing;
     match i {
-        Auxiliary::Lar(r, _) => keep(lar(m, r, w)),
-        Auxiliary::Sar(r, _) => store_word(m, sar(before, r)),
-        Auxiliary::Lark(r, k) => keep(lark(m, r, k)),
-        Auxiliary::Mar(_) => keep(mar(m)),
-        Auxiliary::Adrk(k) => keep(adrk(m, k)),
-        Auxiliary::Sbrk(k) => keep(sbrk(m, k)),
-        Auxiliary::Ldp(_) => keep(ldp(m, w)),
-        Auxiliary::Ldpk(k) => keep(ldpk(m, k)),
+        Auxiliary::Lar(r, _) => n = lar(n, r, w),
+        Auxiliary::Sar(r, _) => store = Store::Word(sar(before, r)),
+        Auxiliary::Lark(r, k) => n = lark(n, r, k),
+        Auxiliary::Mar(_) => n = mar(n),
+        Auxiliary::Adrk(k) => n = adrk(n, k),
+        Auxiliary::Sbrk(k) => n = sbrk(n, k),
+        Auxiliary::Ldp(_) => n = ldp(n, w),
+        Auxiliary::Ldpk(k) => n = ldpk(n, k),
+    }
+    Effect {
+        m: n,
+        store,
+        jump: Jump::Past,
     }
 }

@@ -4,7 +4,8 @@ use machine::Machine;
 use machine::pop_on;
 use machine::push_on;
 use pages::Effect;
-use passes::keep;
+use pages::Jump;
+use pages::Store;
 use words::bits;
 ghost use mathlib.Core.Path.{_≡_};
 ghost use Rattle.pages.specs.ModesPages.{SOVM, ROVM, SSXM, RSXM, CNFD, CNFP, RPT, RPTK, PUSH, POP};
@@ -93,16 +94,22 @@ fn pop(m: Machine) -> Machine
 pub fn rule(i: Modes, m: Machine, w: u16) -> Effect
     ensures { λ r. ⌜ r ≡ modesRule i m w ⌝ }
 {
+    let mut n = m;
     match i {
-        Modes::Sovm => keep(sovm(m)),
-        Modes::Rovm => keep(rovm(m)),
-        Modes::Ssxm => keep(ssxm(m)),
-        Modes::Rsxm => keep(rsxm(m)),
-        Modes::Cnfd => keep(cnfd(m)),
-        Modes::Cnfp => keep(cnfp(m)),
-        Modes::Rpt(_) => keep(rpt(w, m)),
-        Modes::Rptk(k) => keep(rptk(k, m)),
-        Modes::Push => keep(push(m)),
-        Modes::Pop => keep(pop(m)),
+        Modes::Sovm => n = sovm(n),
+        Modes::Rovm => n = rovm(n),
+        Modes::Ssxm => n = ssxm(n),
+        Modes::Rsxm => n = rsxm(n),
+        Modes::Cnfd => n = cnfd(n),
+        Modes::Cnfp => n = cnfp(n),
+        Modes::Rpt(_) => n = rpt(w, n),
+        Modes::Rptk(k) => n = rptk(k, n),
+        Modes::Push => n = push(n),
+        Modes::Pop => n = pop(n),
+    }
+    Effect {
+        m: n,
+        store: Store::Nothing,
+        jump: Jump::Past,
     }
 }

@@ -2,9 +2,8 @@
 use instructions::Multiplier;
 use machine::Machine;
 use pages::Effect;
-use passes::copy_word;
-use passes::keep;
-use passes::store_word;
+use pages::Jump;
+use pages::Store;
 use passes::with_sum;
 ghost use mathlib.Core.Path.{_≡_};
 ghost use Rattle.machine.specs.Cells.{withP, withT};
@@ -160,25 +159,38 @@ fn spm(m: Machine, k: u8) -> Machine
 pub fn rule(i: Multiplier, m: Machine, w: u16, table: u16, at: u16) -> Effect
     ensures { λ r. ⌜ r ≡ multiplierRule i m w table at ⌝ }
 {
+    let mut n = m;
+    let mut store = Store::Nothing;
     match i {
-        Multiplier::Lt(_) => keep(lt(m, w)),
-        Multiplier::Lta(_) => keep(lta(m, w)),
-        Multiplier::Ltp(_) => keep(ltp(m, w)),
-        Multiplier::Ltd(_) => copy_word(ltd(m, w), w),
-        Multiplier::Lts(_) => keep(lts(m, w)),
-        Multiplier::Mpy(_) => keep(mpy(m, w)),
-        Multiplier::Mpya(_) => keep(mpya(m, w)),
-        Multiplier::Mpys(_) => keep(mpys(m, w)),
-        Multiplier::Mpyk(k) => keep(mpyk(m, k)),
-        Multiplier::Sqra(_) => keep(sqra(m, w)),
-        Multiplier::Sqrs(_) => keep(sqrs(m, w)),
-        Multiplier::Mac(_) => keep(mac(m, w, table, at)),
-        Multiplier::Macd(_) => copy_word(macd(m, w, table, at), w),
-        Multiplier::Pac => keep(pac(m)),
-        Multiplier::Apac => keep(apac(m)),
-        Multiplier::Spac => keep(spac(m)),
-        Multiplier::Spl(_) => store_word(m, spl(m)),
-        Multiplier::Sph(_) => store_word(m, sph(m)),
-        Multiplier::Spm(k) => keep(spm(m, k)),
+        Multiplier::Lt(_) => n = lt(n, w),
+        Multiplier::Lta(_) => n = lta(n, w),
+        Multiplier::Ltp(_) => n = ltp(n, w),
+        Multiplier::Ltd(_) => {
+            n = ltd(n, w);
+            store = Store::Move(w);
+        }
+        Multiplier::Lts(_) => n = lts(n, w),
+        Multiplier::Mpy(_) => n = mpy(n, w),
+        Multiplier::Mpya(_) => n = mpya(n, w),
+        Multiplier::Mpys(_) => n = mpys(n, w),
+        Multiplier::Mpyk(k) => n = mpyk(n, k),
+        Multiplier::Sqra(_) => n = sqra(n, w),
+        Multiplier::Sqrs(_) => n = sqrs(n, w),
+        Multiplier::Mac(_) => n = mac(n, w, table, at),
+        Multiplier::Macd(_) => {
+            n = macd(n, w, table, at);
+            store = Store::Move(w);
+        }
+        Multiplier::Pac => n = pac(n),
+        Multiplier::Apac => n = apac(n),
+        Multiplier::Spac => n = spac(n),
+        Multiplier::Spl(_) => store = Store::Word(spl(n)),
+        Multiplier::Sph(_) => store = Store::Word(sph(n)),
+        Multiplier::Spm(k) => n = spm(n, k),
+    }
+    Effect {
+        m: n,
+        store,
+        jump: Jump::Past,
     }
 }
