@@ -6,11 +6,13 @@ use instructions::Instruction;
 use machine::Machine;
 use plans::plan_pass;
 use plans::program_word;
+use refusals::is_program_absent;
 use refusals::refuse;
 use steps::Plan;
 use traits::traits_of;
 ghost use mathlib.Core.Path.{_≡_};
-ghost use mathlib.Core.Bool.{cond};
+ghost use mathlib.Core.Bool.{cond, not, _&&_};
+ghost use lib.Dec.{ltb};
 ghost use Rattle.board.specs.Windows.{programWord};
 ghost use Rattle.steps.specs.Stages.{instructionPlan, decodedPlan};
 ghost use Rattle.fetching.specs.ByTable.{fetchPlanBy};
@@ -25,6 +27,16 @@ fn second_word<'a>(two: bool, cnf: u8, at: u16, rom: &'a [u16], data: &'a [u16])
     0
 }
 
+// The instruction is asked only while a repeat is pending.
+fn is_unrepeatable(rptc: u16, repeatable: bool) -> bool
+    ensures { λ r. ⌜ r ≡ (ltb 0 rptc && not repeatable) ⌝ }
+{
+    if 0 < rptc {
+        return !repeatable;
+    }
+    false
+}
+
 // An instruction of the base: answers 7 and 5 for the second word, then the pass.
 fn plan_instruction<'a>(
     i: Instruction,
@@ -37,16 +49,13 @@ fn plan_instruction<'a>(
     ensures { λ r. ⌜ r ≡ instructionPlan i (now (rom .entry)) (now («data» .entry)) (now (input .entry)) «output_length» m ⌝ }
 {
     let t = traits_of(i);
-    let fixed = !t.repeatable;
-    if (0 < m.rptc) & fixed {
+    if is_unrepeatable(m.rptc, t.repeatable) {
         return refuse(m, Answer::NotRepeatable);
     }
     let two = t.words == 2;
     let at = registers::wrapped_sum(m.pc, 1);
-    if two {
-        if !regions::program_present(m.cnf, at) {
-            return refuse(m, Answer::ProgramAbsent);
-        }
+    if is_program_absent(two, m.cnf, at) {
+        return refuse(m, Answer::ProgramAbsent);
     }
     let second = second_word(two, m.cnf, at, rom, data);
     plan_pass(i, t, second, rom, data, input, output_length, m)

@@ -10,6 +10,7 @@ use steps::Write;
 ghost use mathlib.Core.Path.{_≡_};
 ghost use mathlib.Core.Bool.{not, _&&_};
 ghost use Rattle.board.specs.Regions.{dataPresent, programPresent};
+ghost use Rattle.board.specs.Slices.{portSpent};
 ghost use Rattle.steps.specs.Pass.{refused};
 ghost use Rattle.steps.specs.Refusals.{accesses, wrongPort, sends, passRefusal};
 
@@ -63,21 +64,24 @@ fn is_present(cnf: u8, address: u32) -> bool
     false
 }
 
-// Presence is asked for only where the word is needed.
-fn is_data_absent(accessed: bool, cnf: u8, address: u32) -> bool
-    ensures { λ r. ⌜ r ≡ (accessed && not (dataPresent cnf address)) ⌝ }
+// Of a second word or a table word, asked only where there is one. Both places are asked at once: were it `program_present`, the compiler would
+// ask the first of them in every step.
+pub fn is_program_absent(needed: bool, cnf: u8, at: u16) -> bool
+    ensures { λ r. ⌜ r ≡ (needed && not (programPresent cnf at)) ⌝ }
 {
-    if accessed {
-        return !is_present(cnf, address);
+    if needed {
+        let rom = regions::in_rom(at);
+        let block = regions::in_program_b0(cnf, at);
+        return !(rom | block);
     }
     false
 }
 
-fn is_table_absent(table: bool, cnf: u8, at: u16) -> bool
-    ensures { λ r. ⌜ r ≡ (table && not (programPresent cnf at)) ⌝ }
+fn is_output_full(sent: bool, output_length: usize, cursor: u16) -> bool
+    ensures { λ r. ⌜ r ≡ (sent && portSpent «output_length» cursor) ⌝ }
 {
-    if table {
-        return !regions::program_present(cnf, at);
+    if sent {
+        return slices::port_spent(output_length, cursor);
     }
     false
 }
@@ -98,18 +102,18 @@ pub fn pass_refusal(
     if is_wrong_port(port) {
         return Answer::WrongPort;
     }
-    if accessed & (65535 < address) {
-        return Answer::AddressAbove;
+    if accessed {
+        if 65535 < address {
+            return Answer::AddressAbove;
+        }
+        if !is_present(m.cnf, address) {
+            return Answer::DataAbsent;
+        }
     }
-    if is_data_absent(accessed, m.cnf, address) {
-        return Answer::DataAbsent;
-    }
-    if is_table_absent(t.table, m.cnf, table_address(m, second)) {
+    if is_program_absent(t.table, m.cnf, table_address(m, second)) {
         return Answer::ProgramAbsent;
     }
-    let sent = is_sent(port);
-    let full = slices::port_spent(output_length, m.output_cursor);
-    if sent & full {
+    if is_output_full(is_sent(port), output_length, m.output_cursor) {
         return Answer::OutputFull;
     }
     Answer::Done

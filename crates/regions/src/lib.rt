@@ -86,7 +86,8 @@ pub fn in_program_b0(cnf: u8, address: u16) -> bool
 pub fn program_present(cnf: u8, address: u16) -> bool
     ensures { λ r. ⌜ r ≡ programPresent cnf address ⌝ }
 {
-    let rom = in_rom(address);
-    let block = in_program_b0(cnf, address);
-    rom | block
+    if in_rom(address) {
+        return true;
+    }
+    in_program_b0(cnf, address)
 }

@@ -1,5 +1,6 @@
 -- One possible result of each exported function: a pass, a step and a run.
 use Rattle.stores.proofs.write_of.Reads as WriteOf
+use Rattle.refusals.proofs.is_program_absent.Reads as IsProgramAbsent
 use Rattle.refusals.proofs.pass_refusal.Reads as PassRefusal
 use Rattle.refusals.proofs.refuse.Reads as Refuse
 use Rattle.plans.proofs.program_word.Reads as ProgramWord
@@ -18,6 +19,9 @@ write-of κs a r r′ e e′ p q = same p q
 
 pub refuse : OneResult Refuse.Post
 refuse κs a r r′ e e′ p q = same p q
+
+pub is-program-absent : OneResult IsProgramAbsent.Post
+is-program-absent κs a r r′ e e′ p q = same p q
 
 pub pass-refusal : OneResult PassRefusal.Post
 pass-refusal κs a r r′ e e′ p q = same p q

@@ -1,8 +1,3 @@
-use mathlib.Core.Path.{_≡_}
-use mathlib.Core.Bool.{false, not, _&&_}
-use mathlib.Core.Logic.{⊎-elim}
-use lib.Dec.{eqb}
-use Rattle.board.specs.Regions.{programPresent}
 use Rattle.steps.specs.Stages.{instructionPlan}
 use Rattle.steps.specs.Table.{notRepeatable, secondAbsent, secondWord, secondAddress}
 use borrow.Author.Needs.{needs}
@@ -12,25 +7,28 @@ use Rattle.fetching.proofs.plan_instruction.Tie as tie
 traits-of-requires : tie.Need-traits-of-requires
 traits-of-requires c κs = search needs
 
+is-unrepeatable-requires : tie.Need-is-unrepeatable-requires
+is-unrepeatable-requires c κs = search needs
+
 refuse-requires : tie.Need-refuse-requires
 refuse-requires c κs = search needs
 
 returns : tie.Need-returns
 unfolding instructionPlan notRepeatable secondAbsent secondWord secondAddress
-returns c = rw (c .refuse .ensures, ← c .before .before .before .before .traits-of .ensures, c .before .if1 .taken)
+returns c = rw (c .refuse .ensures, ← c .before .before .before .traits-of .ensures, ← c .before .before .is-unrepeatable .ensures, c .before .if1 .taken)
 
 wrapped-sum-requires : tie.Need-wrapped-sum-requires
 wrapped-sum-requires c κs = search needs
 
-program-present-requires : tie.Need-program-present-requires
-program-present-requires c κs = search needs
+is-program-absent-requires : tie.Need-is-program-absent-requires
+is-program-absent-requires c κs = search needs
 
 refuse-requires-2 : tie.Need-refuse-requires-2
 refuse-requires-2 c κs = search needs
 
 returns-2 : tie.Need-returns-2
 unfolding instructionPlan notRepeatable secondAbsent secondWord secondAddress
-returns-2 c = rw (c .refuse2 .ensures, ← c .before .before .before .before .before .before .before .before .before .traits-of .ensures, ← c .before .before .before .before .wrapped-sum .ensures, ← c .before .before .program-present .ensures, c .before .before .before .before .before .before .if1 .left, c .before .before .before .if2 .taken, c .before .if3 .taken)
+returns-2 c = rw (c .refuse2 .ensures, ← c .before .before .before .before .before .before .before .traits-of .ensures, ← c .before .before .before .before .before .before .is-unrepeatable .ensures, ← c .before .before .before .wrapped-sum .ensures, ← c .before .before .is-program-absent .ensures, c .before .before .before .before .before .if1 .left, c .before .if2 .taken)
 
 second-word-requires : tie.Need-second-word-requires
 second-word-requires c κs = search needs
@@ -40,20 +38,18 @@ plan-pass-requires c κs = search needs
 
 returns-3 : tie.Need-returns-3
 unfolding instructionPlan notRepeatable secondAbsent secondWord secondAddress
-returns-3 c =
-    let there : (eqb (c .before .before .before .before .before .before .before .before .traits-of .result .words) 2 && not (programPresent (c .before .before .before .before .before .before .before .before .before .before .before .before .args .m .cnf) (c .before .before .before .wrapped-sum .result))) ≡ false
-    = ⊎-elim (λ w. rw (w .0 .taken, ← w .1 .ensures, w .2 .left)) (λ w. rw (w .left)) (c .before .before .if2 .came) in
-    rw (c .plan-pass .ensures, c .before .second-word .ensures, ← c .before .before .before .before .before .before .before .before .traits-of .ensures, ← c .before .before .before .wrapped-sum .ensures, c .before .before .before .before .before .if1 .left, there)
+returns-3 c = rw (c .plan-pass .ensures, c .before .second-word .ensures, ← c .before .before .before .before .before .before .before .before .traits-of .ensures, ← c .before .before .before .before .before .before .before .is-unrepeatable .ensures, ← c .before .before .before .before .wrapped-sum .ensures, ← c .before .before .before .is-program-absent .ensures, c .before .before .before .before .before .before .if1 .left, c .before .before .if2 .left)
 
 pub plan-instruction-spec : {M : Type 1} → statement M
 plan-instruction-spec =
     tie.close
     (tie.spec
     traits-of-requires
+    is-unrepeatable-requires
     refuse-requires
     returns
     wrapped-sum-requires
-    program-present-requires
+    is-program-absent-requires
     refuse-requires-2
     returns-2
     second-word-requires
