@@ -5,22 +5,26 @@ use addressing::table_address;
 use answers::Answer;
 use answers::is_done;
 use instructions::Instruction;
+use instructions::Transfers;
 use machine::Machine;
 use pages::Access;
 use pages::Effect;
 use pages::Traits;
-use pages::Words;
 use passes::follow;
 use refusals::pass_refusal;
 use refusals::refuse;
 use steps::Plan;
 use stores::write_of;
 ghost use mathlib.Core.Path.{_≡_};
-ghost use lib.ListN.{getD};
+ghost use mathlib.Core.List.{[]};
+ghost use lib.ListN.{getD, length};
 ghost use Rattle.pages.specs.Addressing.{addressOf};
 ghost use Rattle.pages.specs.Rules.{ruleOf};
+ghost use Rattle.pages.specs.TransfersRule.{transfersRule};
+ghost use Rattle.board.specs.Slices.{portSpent};
 ghost use Rattle.board.specs.Windows.{programWord};
 ghost use Rattle.steps.specs.Pass.{readWord, wordsRead, performed, passPlan};
+ghost use Rattle.plans.specs.PassWords.{memoryWords, withPort};
 
 fn word_at(data: &[u16], address: u32) -> u16
     ensures { λ r. ⌜ r ≡ getD (now («data» .entry)) address 0 ⌝ }
@@ -47,47 +51,56 @@ pub fn program_word<'a>(cnf: u8, at: u16, rom: &'a [u16], data: &'a [u16]) -> u1
     if 0 < window.len() { window[0] } else { 0 }
 }
 
+// The words that a pass reads from the memories.
+struct MemoryWords {
+    operand: u16,
+    second: u16,
+    table: u16,
+    at: u16,
+}
+
 fn words_read<'a>(
     t: Traits,
     address: u32,
     second: u16,
     rom: &'a [u16],
     data: &'a [u16],
-    input: &[u16],
     m: Machine,
-) -> Words
+) -> MemoryWords
     requires { ⌜ address ≡ addressOf (t .operand) m ⌝ }
-    ensures { λ r. ⌜ r ≡ wordsRead t second (now (rom .entry)) (now («data» .entry)) (now (input .entry)) m ⌝ }
+    ensures { λ r. ⌜ r ≡ memoryWords (wordsRead t second (now (rom .entry)) (now («data» .entry)) [] m) ⌝ }
 {
     let access = t.access;
     let word = read_word(access, data, address);
     let at = table_address(m, second);
-    let next = slices::input_word(input, m.input_cursor);
-    let dry = slices::port_spent(input.len(), m.input_cursor);
     if t.table {
         let table = program_word(m.cnf, at, rom, data);
-        return Words {
+        return MemoryWords {
             operand: word,
             second,
             table,
             at,
-            next,
-            dry,
         };
     }
-    Words {
+    MemoryWords {
         operand: word,
         second,
         table: 0,
         at,
-        next,
-        dry,
     }
 }
 
+// The next input word is read for a transfer alone.
+fn transfer(page: Transfers, m: Machine, word: u16, input: &[u16], cursor: u16) -> Effect
+    ensures { λ r. ⌜ r ≡ transfersRule page m word (portSpent (length (now (input .entry))) cursor) (getD (now (input .entry)) cursor 0) ⌝ }
+{
+    let dry = slices::port_spent(input.len(), cursor);
+    transfers::rule(page, m, word, dry, slices::input_word(input, cursor))
+}
+
 // One rule for every instruction of the base, by its family.
-pub fn rule(i: Instruction, before: Machine, m: Machine, words: Words) -> Effect
-    ensures { λ r. ⌜ r ≡ ruleOf i before m words ⌝ }
+fn rule(i: Instruction, before: Machine, m: Machine, words: MemoryWords, input: &[u16]) -> Effect
+    ensures { λ r. ⌜ r ≡ ruleOf i before m (withPort words (now (input .entry)) (before .«input_cursor»)) ⌝ }
 {
     match i {
         Instruction::Accumulator(page) => accumulator::rule(page, m, words.operand),
@@ -97,7 +110,7 @@ pub fn rule(i: Instruction, before: Machine, m: Machine, words: Words) -> Effect
         Instruction::Auxiliary(page) => auxiliary::rule(page, before, m, words.operand),
         Instruction::Branches(page) => branches::rule(page, before, m, words.second),
         Instruction::Transfers(page) => {
-            transfers::rule(page, m, words.operand, words.dry, words.next)
+            transfer(page, m, words.operand, input, before.input_cursor)
         }
         Instruction::Modes(page) => modes::rule(page, m, words.operand),
     }
@@ -118,8 +131,8 @@ fn perform<'a>(
     ensures { λ r. ⌜ r ≡ performed t i second (now (rom .entry)) (now («data» .entry)) (now (input .entry)) m ⌝ }
 {
     let operand = t.operand;
-    let words = words_read(t, address, second, rom, data, input, m);
-    let e = rule(i, m, after_operand(m, operand), words);
+    let words = words_read(t, address, second, rom, data, m);
+    let e = rule(i, m, after_operand(m, operand), words, input);
     let after = e.m;
     let jump = e.jump;
     let store = e.store;

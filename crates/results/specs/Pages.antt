@@ -6,7 +6,6 @@ use Rattle.auxiliary.proofs.rule.Reads as AuxiliaryRule
 use Rattle.branches.proofs.rule.Reads as BranchesRule
 use Rattle.transfers.proofs.rule.Reads as TransfersRule
 use Rattle.modes.proofs.rule.Reads as ModesRule
-use Rattle.plans.proofs.rule.Reads as RulesRule
 use Rattle.results.specs.One.{OneResult, same}
 
 pub accumulator-rule : OneResult AccumulatorRule.Post
@@ -29,6 +28,3 @@ transfers-rule κs a r r′ e e′ p q = same p q
 
 pub modes-rule : OneResult ModesRule.Post
 modes-rule κs a r r′ e e′ p q = same p q
-
-pub rules-rule : OneResult RulesRule.Post
-rules-rule κs a r r′ e e′ p q = same p q

@@ -1,4 +1,5 @@
-use Rattle.steps.specs.Pass.{performed, passedMachine, passedWrite, effectOf}
+use Rattle.steps.specs.Pass.{performed, passedMachine, passedWrite, effectOf, wordsRead}
+use Rattle.plans.specs.PassWords.{memoryWords, withPort}
 use borrow.Author.Needs.{needs}
 use Rattle.plans.proofs.perform.Statement.{statement}
 use Rattle.plans.proofs.perform.Tie as tie
@@ -19,7 +20,7 @@ write-of-requires : tie.Need-write-of-requires
 write-of-requires c κs = search needs
 
 returns : tie.Need-returns
-unfolding performed passedMachine passedWrite effectOf
+unfolding performed passedMachine passedWrite effectOf wordsRead memoryWords withPort
 returns c = rw (c .write-of .ensures, c .before .follow .ensures, c .before .before .before .rule .ensures, c .before .before .before .before .after-operand .ensures, c .before .before .before .before .before .words-read .ensures, ← c .before .before .before .before .before .before .before .before .before .pre)
 
 pub perform-spec : {M : Type 1} → statement M

@@ -1,4 +1,5 @@
 use Rattle.steps.specs.Pass.{wordsRead}
+use Rattle.plans.specs.PassWords.{memoryWords}
 use borrow.Author.Needs.{needs}
 use Rattle.plans.proofs.words_read.Statement.{statement}
 use Rattle.plans.proofs.words_read.Tie as tie
@@ -9,22 +10,16 @@ read-word-requires c κs = search needs
 table-address-requires : tie.Need-table-address-requires
 table-address-requires c κs = search needs
 
-input-word-requires : tie.Need-input-word-requires
-input-word-requires c κs = search needs
-
-port-spent-requires : tie.Need-port-spent-requires
-port-spent-requires c κs = search needs
-
 program-word-requires : tie.Need-program-word-requires
 program-word-requires c κs = search needs
 
 returns : tie.Need-returns
-unfolding wordsRead
-returns c = rw (c .program-word .ensures, c .before .before .port-spent .ensures, c .before .before .before .input-word .ensures, c .before .before .before .before .table-address .ensures, c .before .before .before .before .before .read-word .ensures, ← c .before .before .before .before .before .before .before .before .before .pre, c .before .if1 .taken)
+unfolding wordsRead memoryWords
+returns c = rw (c .program-word .ensures, c .before .before .table-address .ensures, c .before .before .before .read-word .ensures, ← c .before .before .before .before .before .before .pre, c .before .if1 .taken)
 
 returns-2 : tie.Need-returns-2
-unfolding wordsRead
-returns-2 c = rw (c .before .port-spent .ensures, c .before .before .input-word .ensures, c .before .before .before .table-address .ensures, c .before .before .before .before .read-word .ensures, ← c .before .before .before .before .before .before .before .before .pre, c .if1 .left)
+unfolding wordsRead memoryWords
+returns-2 c = rw (c .before .table-address .ensures, c .before .before .read-word .ensures, ← c .before .before .before .before .before .pre, c .if1 .left)
 
 pub words-read-spec : {M : Type 1} → statement M
 words-read-spec =
@@ -32,8 +27,6 @@ words-read-spec =
     (tie.spec
     read-word-requires
     table-address-requires
-    input-word-requires
-    port-spent-requires
     program-word-requires
     returns
     returns-2)

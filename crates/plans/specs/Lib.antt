@@ -1,0 +1,2 @@
+-- definitions
+pub mod PassWords
