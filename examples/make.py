@@ -45,6 +45,23 @@ def stack_of_frames(n, overflow_mode):
     return run_file(program, 17 + n, data=[MINUS] * n)
 
 
+# every section at its most, 16,400 bytes; the last word of each is used
+LARGEST = run_file(
+    [
+        0xC808,          # LDPK 8: page 0400h, the first data words
+        0x5589,          # LARP 1
+        0x3100,          # LAR AR1,0: 0FFFh, where the last data word is
+        0xE180,          # OUT *,1
+        0x3101,          # LAR AR1,1: 0800h
+    ] + 4 * [
+        0xCBFF, 0x80A0,  # RPTK 255; IN *+,0: 256 words
+    ] + [
+        0x5590, 0xE180,  # MAR *-; OUT *,1: the last input word
+        0xFF80, 0x0FFF,  # B 0FFFh
+    ] + (0xFFF - 17) * [0] + [
+        0xCA5A,          # LACK 5Ah: the last program word
+    ], 1037, data=[0x0FFF, 0x0800] + 3069 * [0] + [0xDA7A], input=1023 * [0] + [0x1A57])
+
 EXAMPLES = {
     # document 01's own file
     'first': run_file([
@@ -100,6 +117,15 @@ EXAMPLES = {
         0x2000,          # LAC 0
         0xF580, 0x0001,  # BNZ 0001h
     ], 4 * 4 + 1, input=[0x1234, 0xABCD, 0xFFFF]),
+    'largest': LARGEST,
+    # 1,024 words sent in 10,000 steps or more, then refused by 10: 5,145 bytes
+    'longest': run_file([
+        0xC806,          # LDPK 6
+        0xCC01, 0x6000,  # ADDK 1; SACL 0
+        0xCB0F, 0x5500,  # RPTK 15; NOP
+        0xE100,          # OUT 0,1
+        0xFF80, 0x0001,  # B 0001h
+    ], 65535),
     'refused-3': run_file([0xCA01, 0x00B0], 5),   # LACK 1; an indirect field of 011 is in no encoding
     'refused-4': run_file([0xCA01, 0xCE1F], 5),   # LACK 1; IDLE is published and not in the base
     'refused-5': run_file([0xFF80, 0x1000], 5),   # B 1000h: past the ROM
@@ -114,6 +140,7 @@ EXAMPLES = {
     'refused-20': bytes([1, 0, 5]),                       # three bytes
     'refused-21': words([2, 0, 16, 0, 16, 0, 16, 0]),     # version 2
     'refused-22': run_file([0xCA05], 1) + b'\0',          # a byte past the last section
+    'refused-22-largest': LARGEST + b'\0',               # a byte past the largest file
     'refused-22-long': run_file([0] * 4096, 1) + b'\0' * 60000,  # longer than any file
 }
 

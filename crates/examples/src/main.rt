@@ -2,10 +2,10 @@
 const STDOUT: i32 = 1;
 
 fn print_replay(fd: i32) {
-    let mut file = io::large_buffer();
-    let length = io::read_full(fd, &mut file);
-    let mut line = io::large_buffer();
-    let end = replaying::replayed(&file[..length], &mut line);
+    let mut file = [0; 16401];
+    let count = io::read_full(fd, &mut file);
+    let mut line = [0; 5145];
+    let end = replaying::replayed(&file, count, &mut line);
     io::write_all(STDOUT, &line[..end]);
 }
 
@@ -32,6 +32,12 @@ fn show_programs() {
     show(b"copy");
 }
 
+// The largest file, and one whose line is the longest.
+fn show_limits() {
+    show(b"largest");
+    show(b"longest");
+}
+
 // One for each refusal of a step that a file can reach.
 fn show_refused_steps() {
     show(b"refused-3");
@@ -47,12 +53,14 @@ fn show_refused_files() {
     show(b"refused-20");
     show(b"refused-21");
     show(b"refused-22");
+    show(b"refused-22-largest");
     show(b"refused-22-long");
 }
 
 fn main() {
     show_stacks();
     show_programs();
+    show_limits();
     show_refused_steps();
     show_refused_files();
 }

@@ -4,9 +4,9 @@ const STDIN: i32 = 0;
 const STDOUT: i32 = 1;
 
 fn main() {
-    let mut file = io::large_buffer();
-    let length = io::read_full(STDIN, &mut file);
-    let mut line = io::large_buffer();
-    let end = replaying::replayed(&file[..length], &mut line);
+    let mut file = [0; 16401];
+    let count = io::read_full(STDIN, &mut file);
+    let mut line = [0; 5145];
+    let end = replaying::replayed(&file, count, &mut line);
     io::write_all(STDOUT, &line[..end]);
 }

@@ -1,11 +1,11 @@
 -- Laws of what `replay` prints: what is set up and run gives the definition's line, and a longer file can be cut.
 use mathlib.Core.Path.{_≡_, refl, sym, ap, _∙_}
 use mathlib.Core.Bool.{Bool, true, false, cond}
-use mathlib.Core.List.{List}
+use mathlib.Core.List.{List, _++_}
 use Prim.Native.Nat.{ℕ, _+_, _≤_, _<_}
 use native.Mathlib.Omega.{arith}
-use lib.Dec.{ltb, leb, eqb}
-use lib.ListN.{length, take, getD, replicate, length-append}
+use lib.Dec.{ltb, eqb}
+use lib.ListN.{length, take, drop, getD, replicate, length-append}
 use lib.Seq.{take-all, length-take-le, getD-take}
 use borrow.Author.Tests.{eq-eqb, le-ltb, ltb-true, ltb-false}
 use Rattle.machine.specs.declared.Machine.{Machine}
@@ -22,6 +22,8 @@ use Rattle.emulator.specs.Outcomes.{ran}
 use Rattle.steps.specs.Step.{runOf}
 use Rattle.fields.specs.Placing.{lineIn, lengthIn}
 use Rattle.line.specs.Lines.{lineOf, refusedLine}
+use Rattle.replay_line.specs.Longest.{longestLine}
+use Rattle.replay_line.specs.LongestLaws.{line-whole}
 use Rattle.replay_line.specs.Replay.{startOf, replayRun, runLine, replayLine}
 use Rattle.replaying.specs.Facts.{FreshSlices}
 
@@ -84,17 +86,21 @@ module _ (bytes : List ℕ) where
         let same : ran r data₂ output₂ ≡ replayRun (readContents bytes) = e ∙ rw (e₁, e₂, e₃, e₄, b, fresh-loaded, f .output-zeros) in
         ap runLine same ∙ accepted-replay done
 
--- how many bytes were put down is a count of the bytes lent
-pub placed-counts : (line bytes : List ℕ) {after : List ℕ} {n : ℕ} → (n ≡ lengthIn line bytes) × (after ≡ lineIn line bytes) → (n ≤ length after) × (n ≡ length (take n after))
-unfolding lineIn lengthIn
-placed-counts line bytes {after} {n} p = (most, sym (length-take-le n after most))
-  where
-    by : (t : Bool) → leb (length line) (length bytes) ≡ t → lengthIn line bytes ≤ length (lineIn line bytes)
-    by true e = simp (e, length-append) (omega arith)
-    by false e = simp e (omega arith)
+-- in bytes that hold every line, the line stands whole
+pub placed-whole : (bytes lent : List ℕ) {after : List ℕ} {n : ℕ} → ((i : ℕ) → getD bytes i 0 < 256) → longestLine ≤ length lent
+    → (n ≡ lengthIn (replayLine bytes) lent) × (after ≡ lineIn (replayLine bytes) lent)
+    → (n ≡ length (replayLine bytes)) × (after ≡ replayLine bytes ++ drop (length (replayLine bytes)) lent)
+placed-whole bytes lent below room p =
+    let whole = line-whole bytes lent (record { at = below }) room in
+    (p .0 ∙ whole .0, p .1 ∙ whole .1)
 
+-- how many bytes were put down is a count of the bytes that hold them
+pub put-counts : (bytes lent : List ℕ) {after : List ℕ} {n : ℕ} → (n ≡ length (replayLine bytes)) × (after ≡ replayLine bytes ++ drop (length (replayLine bytes)) lent)
+    → (n ≤ length after) × (n ≡ length (take n after))
+put-counts bytes lent {after} {n} p = (most, sym (length-take-le n after most))
+  where
     most : n ≤ length after
-    most = rw (p .0, p .1) (by (leb (length line) (length bytes)) refl)
+    most = rw (p .1) (omega (arith, p .0, length-append (replayLine bytes) (drop (length (replayLine bytes)) lent)))
 
 -- A file has at most 16,400 bytes (16 and two for each of 4,096 + 3,072 + 1,024 words), so the first 16,401 of a longer one give its line.
 too-long : (bytes : List ℕ) → 16401 ≤ length bytes → readAnswer bytes ≡ cond (eqb (numbersOf bytes .version) 1) FileRules FileVersion

@@ -1,9 +1,13 @@
 // From the bytes of a run file to its line: all of `replay` but reading and writing.
 ghost use mathlib.Core.Path.{_≡_};
 ghost use mathlib.Core.Bool.{true};
+ghost use mathlib.Core.List.{_++_};
+ghost use Prim.Native.Nat.{_≤_};
+ghost use lib.ListN.{length, take, drop};
 ghost use Rattle.answers.specs.Numbers.{isDone};
 ghost use Rattle.runfile.specs.Files.{readAnswer, readContents};
 ghost use Rattle.fields.specs.Placing.{lineIn, lengthIn};
+ghost use Rattle.replay_line.specs.Longest.{longestLine};
 ghost use Rattle.replay_line.specs.Replay.{replayLine};
 ghost use Rattle.replaying.specs.Facts.{FreshSlices};
 use emulator::run;
@@ -13,6 +17,8 @@ use machine::Machine;
 use runfile::reading::head_of;
 use runfile::reading::read_answer;
 use setting_up::set_up;
+
+const FILE_BYTES: usize = 16401;
 
 // An accepted file, set up in fresh slices and run from reset: its line.
 fn replay_in(
@@ -58,9 +64,10 @@ fn replay_accepted(bytes: &[u8], line: &mut [u8]) -> usize
     )
 }
 
-// What `replay` prints of a file, at the start of lent bytes, and its length; where it does not fit, 0 and no byte is put down.
-pub fn replayed(bytes: &[u8], line: &mut [u8]) -> usize
-    ensures { λ r. ⌜ (r ≡ lengthIn (replayLine (now (bytes .entry))) (now (line .entry))) × (now (line .exit) ≡ lineIn (replayLine (now (bytes .entry))) (now (line .entry))) ⌝ }
+// What `replay` prints of a file, at the start of lent bytes that hold every line, and its length.
+fn put_line(bytes: &[u8], line: &mut [u8]) -> usize
+    requires { ⌜ longestLine ≤ length (now line) ⌝ }
+    ensures { λ r. ⌜ (r ≡ length (replayLine (now (bytes .entry)))) × (now (line .exit) ≡ replayLine (now (bytes .entry)) ++ drop (length (replayLine (now (bytes .entry)))) (now (line .entry))) ⌝ }
 {
     let answer = read_answer(bytes);
     if answers::is_done(answer) {
@@ -68,4 +75,16 @@ pub fn replayed(bytes: &[u8], line: &mut [u8]) -> usize
     } else {
         refused_line(answer, line)
     }
+}
+
+// What `replay` prints of the file whose first bytes these are, `count` of them read: the line, and its length. The sizes are in the types, so
+// that no program can lend less: 16,401 bytes decide the line of every file (`cut-replay`), and 5,145 hold every line (`line-within`).
+pub fn replayed(file: &[u8; 16401], count: usize, line: &mut [u8; 5145]) -> usize
+    ensures { λ r. ⌜ (r ≡ length (replayLine (take count (now (file .entry))))) × (now (line .exit) ≡ replayLine (take count (now (file .entry))) ++ drop (length (replayLine (take count (now (file .entry))))) (now (line .entry))) ⌝ }
+{
+    let bytes: &[u8] = file;
+    if count < FILE_BYTES {
+        return put_line(&bytes[..count], line);
+    }
+    put_line(bytes, line)
 }

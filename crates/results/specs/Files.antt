@@ -67,5 +67,5 @@ run-line κs a r r′ e e′ p q = both (same (p .0) (q .0)) (same (p .1) (q .1)
 pub refused-line : OneOutcome RefusedLine.Post (λ r e. pair r (now (e .1 .0)))
 refused-line κs a r r′ e e′ p q = both (same (p .0) (q .0)) (same (p .1) (q .1))
 
-pub replayed : OneOutcome Replayed.Post (λ r e. pair r (now (e .1 .0)))
+pub replayed : OneOutcome Replayed.Post (λ r e. pair r (now (e .1 .1 .0)))
 replayed κs a r r′ e e′ p q = both (same (p .0) (q .0)) (same (p .1) (q .1))

@@ -1,42 +1,26 @@
-use Rattle.replaying.specs.ReplayLaws.{placed-as, refused-replay}
-use Rattle.answers.specs.NumberLaws.{told}
+use mathlib.Core.Path.{sym}
+use lib.Seq.{take-all, length-take-le}
+use native.Mathlib.Omega.{arith}
 use borrow.Author.Needs.{needs}
 use Rattle.replaying.proofs.replayed.Statement.{statement}
 use Rattle.replaying.proofs.replayed.Tie as tie
 
-read-answer-requires : tie.Need-read-answer-requires
-read-answer-requires c κs = search needs
+slice-aggregate-put-line : tie.Need-slice-aggregate-put-line
+slice-aggregate-put-line c = sym (length-take-le _ _ (omega arith))
 
-is-done-requires : tie.Need-is-done-requires
-is-done-requires c κs = search needs
-
-replay-accepted-requires : tie.Need-replay-accepted-requires
-replay-accepted-requires c κs = told (c .before .before .before .read-answer .ensures) (c .before .before .is-done .ensures) (c .before .if1 .taken)
-
-refused-line-requires : tie.Need-refused-line-requires
-refused-line-requires c κs = search needs
-
-same-length : tie.Need-same-length
-same-length c = search needs
+put-line-requires : tie.Need-put-line-requires
+put-line-requires c κs = search needs
 
 returns : tie.Need-returns
 returns c = search needs
 
-same-length-2 : tie.Need-same-length-2
-same-length-2 c = search needs
+put-line-requires-2 : tie.Need-put-line-requires-2
+put-line-requires-2 c κs = search needs
 
 returns-2 : tie.Need-returns-2
-returns-2 c = placed-as _ (rw (c .before .before .before .before .before .before .read-answer .ensures) (refused-replay _ (told (c .before .before .before .before .before .before .read-answer .ensures) (c .before .before .before .before .before .is-done .ensures) (c .before .before .before .before .if1 .left)))) (c .before .before .refused-line .ensures)
+returns-2 c = rw (take-all (c .before .before .before .before .args .count) (c .before .before .before .before .args .file .now) (omega arith)) (c .put-line2 .ensures)
 
 pub replayed-spec : {M : Type 1} → statement M
 replayed-spec =
     tie.close
-    (tie.spec
-    read-answer-requires
-    is-done-requires
-    replay-accepted-requires
-    refused-line-requires
-    same-length
-    returns
-    same-length-2
-    returns-2)
+    (tie.spec slice-aggregate-put-line put-line-requires returns put-line-requires-2 returns-2)
