@@ -1,10 +1,10 @@
 -- Demand 3, over every run that is not refused.
 use mathlib.Core.Path.{_≡_, refl, sym, _∙_, ap, subst}
 use mathlib.Core.Bool.{true}
-use mathlib.Core.List.{List, []}
-use mathlib.Core.Logic.{_↔_}
-use Prim.Native.Nat.{ℕ, zero, suc, _+_, _≤_, _<_}
+use mathlib.Core.List.{List}
+use Prim.Native.Nat.{ℕ, zero, suc, _+_, _-_, _≤_, _<_}
 use native.Mathlib.Omega.{arith}
+use native.Mathlib.Decide.{decLe}
 use lib.ListN.{length}
 use Rattle.alu.specs.Registers.{wrappedSum}
 use Rattle.machine.specs.declared.Machine.{Machine}
@@ -24,11 +24,11 @@ use Rattle.steps.specs.Pass.{effectOf, passedMachine, performed}
 use Rattle.steps.specs.World.{World}
 use Rattle.steps.specs.Table.{decodedAt, secondWord}
 use Rattle.steps.specs.Step.{stored, stepOf, runOf}
-use Rattle.frames.specs.Frames.{Pair, Accumulation, fromZero, productAdded, passed, stacked, Words, AllLeast}
-use Rattle.frames.specs.FrameLaws.{below-128, at-128}
-use Rattle.stacking.specs.Stacking.{pairsRead, wordAhead, Stacks, lastWorld, words, Holds}
+use Rattle.frames.specs.Frames.{Pair, Accumulation, fromZero, productAdded, passed, stacked, Words}
+use Rattle.frames.specs.FrameLaws.{passes-keep-ov, below-128, at-128}
+use Rattle.stacking.specs.Stacking.{pairsRead, wordAhead, Stacks, lastWorld, words, StaysZero, Holds, HoldsAt128}
 use Rattle.stacking.specs.Passing.{step-does, RunsOn, runs-on, run-ended, operand-alike, accumulationOf, followed-follows, apac-works}
-use Rattle.stacking.specs.Passes.{plus, plus-is, Began, began, after, Passed, all-passed}
+use Rattle.stacking.specs.Passes.{plus, plus-is, Began, began, after, run-to, Passed, all-passed}
 
 -- the final product add
 apac-page : (rom input : List ℕ) (u : World) (second : ℕ)
@@ -51,10 +51,9 @@ pairs-length rom input zero w = refl
 pairs-length rom input (suc n) w = ap suc (pairs-length rom input n (stepOf rom input w .world))
 
 -- the final add after the passes is a stack of frames
-adds-up : (pm ovm pm′ ovm′ ovm″ : ℕ) (ws : List Pair) (a b : Accumulation) → a ≡ passed pm′ ovm′ ws b → pm ≡ pm′ → ovm ≡ ovm′ → pm′ ≡ 3 → ovm′ ≡ ovm″ → b ≡ fromZero
-    → productAdded pm ovm a ≡ stacked 3 ovm″ ws
+adds-up : (pm ovm ovm′ : ℕ) (ws : List Pair) (a : Accumulation) → a ≡ passed 3 ovm′ ws fromZero → pm ≡ 3 → ovm ≡ ovm′ → productAdded pm ovm a ≡ stacked 3 ovm′ ws
 unfolding stacked
-adds-up pm ovm pm′ ovm′ ovm″ ws a b e f g h i j = rw (e, f, g, h, i, j)
+adds-up pm ovm ovm′ ws a e f g = rw (e, f, g)
 
 module _ (rom input : List ℕ) (w : World) (k : ℕ) (s : Stacks rom input w k) where
   -- the run of n + 2 steps, as its first step, the passes, and the last
@@ -78,15 +77,21 @@ module _ (rom input : List ℕ) (w : World) (k : ℕ) (s : Stacks rom input w k)
   u : World
   u = after rom input (suc k) v
 
-  middle : Passed rom input k 1 v u
-  unfolding u v
-  middle =
-      all-passed rom input (s .accumulate) (s .accumulates) (s .rom-sized) k 1 v
-      (rw (start .same-data) (s .data-sized)) mac-there (start .rptc) (first .rest-done)
+  -- the first n passes, and the j steps that are left then
+  passes : (n j : ℕ) → n ≤ suc k → plus (suc k) 1 ≡ plus n j → Passed rom input n k j v (after rom input n v)
+  unfolding v
+  passes n j l left =
+      all-passed rom input (s .accumulate) (s .accumulates) (s .rom-sized) n k j v
+      (rw (start .same-data) (s .data-sized)) mac-there (start .rptc) l
+      (subst (λ (steps : ℕ). isDone (runOf rom input steps v .answer) ≡ true) left (first .rest-done))
+
+  middle : Passed rom input (suc k) k 1 v u
+  unfolding u
+  middle = passes (suc k) 1 (omega arith) refl
 
   at-apac : u .m .pc ≡ wrappedSum (w .m .pc) 3
   unfolding wrappedSum
-  at-apac = omega (arith, middle .pc, start .pc)
+  at-apac = omega (arith, middle .pc refl, start .pc)
 
   apac-there : decodedAt rom (u .«data») (u .m) ≡ Base (Family.Multiplier Apac)
   unfolding decodedAt wordAhead
@@ -106,12 +111,15 @@ module _ (rom input : List ℕ) (w : World) (k : ℕ) (s : Stacks rom input w k)
   unfolding accumulationOf fromZero
   from-zero = start .accumulation ∙ rw (s .acc-zero, s .p-zero, s .ov-zero)
 
+  passes-come-to : (n j : ℕ) → n ≤ suc k → plus (suc k) 1 ≡ plus n j → accumulationOf (after rom input n v .m) ≡ passed 3 (w .m .ovm) (pairsRead rom input n v) fromZero
+  passes-come-to n j l left = passes n j l left .accumulation ∙ rw (start .pm ∙ s .shift-three, start .ovm, from-zero)
+
   pub comes-to : accumulationOf (lastWorld rom input w k .m) ≡ stacked 3 (w .m .ovm) (words rom input w k)
-  unfolding words v
+  unfolding words v u
   comes-to =
       ap (λ (x : World). accumulationOf (x .m)) end-is
       ∙ apac-step rom input u apac-there (final .step-done)
-      ∙ adds-up _ _ _ _ _ _ _ _ (middle .accumulation) (middle .pm) (middle .ovm) (start .pm ∙ s .shift-three) (start .ovm) from-zero
+      ∙ adds-up _ _ _ _ _ (passes-come-to (suc k) 1 (omega arith) refl) (middle .pm ∙ start .pm ∙ s .shift-three) (middle .ovm ∙ start .ovm)
 
   count : length (words rom input w k) ≡ suc k
   unfolding words
@@ -121,24 +129,51 @@ module _ (rom input : List ℕ) (w : World) (k : ℕ) (s : Stacks rom input w k)
   unfolding words v
   fit = middle .words
 
+  -- ---- OV on the way
+
+  zero-in-passes : suc k ≤ 128 → (n : ℕ) → n ≤ suc k → after rom input n v .m .ov ≡ 0
+  unfolding accumulationOf
+  zero-in-passes h n l =
+      let left : plus (suc k) 1 ≡ plus n (k + 2 - n) = omega (arith, plus-is (suc k) 1, plus-is n (k + 2 - n)) in
+      ap (λ (x : Accumulation). x .ov) (passes-come-to n (k + 2 - n) l left)
+      ∙ passes-keep-ov (pairsRead rom input n v) (w .m .ovm) (omega (arith, pairs-length rom input n v)) (passes n (k + 2 - n) l left .words)
+
+  zero-before-last : suc k ≤ 128 → StaysZero rom input w (k + 2)
+  unfolding after v
+  zero-before-last h zero l = ap (λ (x : World). x .m .ov) (run-ended rom input w) ∙ s .ov-zero
+  zero-before-last h (suc j) l =
+      ap (λ (x : World). x .m .ov) (run-to rom input (suc j) (k + 3) w (omega arith) (s .not-refused))
+      ∙ zero-in-passes h j (omega arith)
+
+  -- and after the last step, where that leaves it 0
+  zero-to-last : suc k ≤ 128 → lastWorld rom input w k .m .ov ≡ 0 → StaysZero rom input w (k + 3)
+  unfolding lastWorld
+  zero-to-last h last j l = by (decLe j (k + 2))
+    where
+      by : Dec (j ≤ k + 2) → runOf rom input j w .world .m .ov ≡ 0
+      by (yes before) = zero-before-last h j before
+      by (no past) = ap (λ (n : ℕ). runOf rom input n w .world .m .ov) (omega arith) ∙ last
+
   -- "for n from 1 to 127 OV stays 0 and 0 <= S - 64 A <= 63 n"
   pub demand : suc k ≤ 127 → Holds rom input w k
   unfolding accumulationOf
   demand h =
       let b = below-128 (words rom input w k) (suc k) (w .m .ovm) count fit (omega arith) h in
       record {
-        ov = ap (λ (x : Accumulation). x .ov) comes-to ∙ b .0;
+        ov = zero-to-last (omega arith) (ap (λ (x : Accumulation). x .ov) comes-to ∙ b .0);
         near = rw (ap (λ (x : Accumulation). x .acc) comes-to) (b .1);
       }
 
   -- "for n = 128 OV is set exactly when all 256 words read are -32768, and otherwise the same bounds hold"
-  pub demand-128 : suc k ≡ 128 → (lastWorld rom input w k .m .ov ≡ 1 ↔ AllLeast (words rom input w k)) × ((AllLeast (words rom input w k) → ⊥) → Holds rom input w k)
+  pub demand-128 : suc k ≡ 128 → HoldsAt128 rom input w k
   unfolding accumulationOf
   demand-128 h =
       let b = at-128 (words rom input w k) (w .m .ovm) (count ∙ h) fit in
-      let o = ap (λ (x : Accumulation). x .ov) comes-to in (
-        ((λ e. b .0 .0 (sym o ∙ e)), (λ a. o ∙ b .0 .1 a)),
-        (λ none.
+      let o = ap (λ (x : Accumulation). x .ov) comes-to in
+      record {
+        before-the-last = λ j l. zero-before-last (omega arith) j (omega arith);
+        set-by-the-last = ((λ e. b .0 .0 (sym o ∙ e)), (λ a. o ∙ b .0 .1 a));
+        otherwise = λ none.
             let c = b .1 none in
-            record { ov = o ∙ c .0; near = rw (ap (λ (x : Accumulation). x .acc) comes-to, h) (c .1) }),
-      )
+            record { ov = zero-to-last (omega arith) (o ∙ c .0); near = rw (ap (λ (x : Accumulation). x .acc) comes-to, h) (c .1) };
+      }

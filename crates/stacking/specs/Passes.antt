@@ -2,7 +2,7 @@
 use mathlib.Core.Path.{_≡_, refl, _∙_, ap}
 use mathlib.Core.Bool.{Bool, true, false, cond}
 use mathlib.Core.List.{List, [], _∷_}
-use Prim.Native.Nat.{ℕ, zero, suc, _+_, _-_, _^_, _<_}
+use Prim.Native.Nat.{ℕ, zero, suc, _+_, _-_, _^_, _≤_, _<_}
 use native.Mathlib.Omega.{arith}
 use lib.ListN.{getD, set}
 use Rattle.alu.specs.Registers.{wrappedSum}
@@ -34,7 +34,7 @@ use Rattle.steps.specs.Table.{decodedAt, secondWord}
 use Rattle.steps.specs.Step.{stored, stepOf, runOf}
 use Rattle.frames.specs.Frames.{Pair, accumulated, passed, Every, Words}
 use Rattle.stacking.specs.Stacking.{pairFor, pairAt, pairsRead, Repeats, by-rptk, by-rpt, Accumulates, by-mac, by-macd, Sized}
-use Rattle.stacking.specs.Passing.{step-does, runs-on, Alike, operand-alike, accumulationOf, followed-follows, again, goes-past, mac-works, move-keeps}
+use Rattle.stacking.specs.Passing.{step-does, runs-on, run-goes-on, run-ended, Alike, operand-alike, accumulationOf, followed-follows, again, goes-past, mac-works, move-keeps}
 
 -- ---- words of 16 bits
 sized-set : (l : List ℕ) (j word : ℕ) → ((i : ℕ) → getD l i 0 < 2 ^ 16) → word < 2 ^ 16 → (i : ℕ) → getD (set l j word) i 0 < 2 ^ 16
@@ -155,33 +155,54 @@ unfolding plus
 plus-is zero j = omega arith
 plus-is (suc k) j = omega (arith, plus-is k j)
 
--- ---- the passes of one repeat, with k to go after this one and j steps after them
-pub record Passed (rom input : List ℕ) (k j : ℕ) (w v : World) : Type 0 where
-  pub accumulation : accumulationOf (v .m) ≡ passed (w .m .pm) (w .m .ovm) (pairsRead rom input (suc k) w) (accumulationOf (w .m))
+-- ---- n passes of one repeat of k + 1, and j steps after them
+pub record Passed (rom input : List ℕ) (n k j : ℕ) (w v : World) : Type 0 where
+  pub accumulation : accumulationOf (v .m) ≡ passed (w .m .pm) (w .m .ovm) (pairsRead rom input n w) (accumulationOf (w .m))
   pub ovm : v .m .ovm ≡ w .m .ovm
   pub pm : v .m .pm ≡ w .m .pm
   pub cnf : v .m .cnf ≡ w .m .cnf
-  pub pc : v .m .pc ≡ wrappedSum (w .m .pc) 2
+  pub pc : n ≡ suc k → v .m .pc ≡ wrappedSum (w .m .pc) 2
   pub program : (x : ℕ) → programWord (w .m .cnf) x rom (v .«data») ≡ programWord (w .m .cnf) x rom (w .«data»)
-  pub words : Words (pairsRead rom input (suc k) w)
+  pub words : Words (pairsRead rom input n w)
   pub rest-done : isDone (runOf rom input j v .answer) ≡ true
-  pub same-end : runOf rom input (plus (suc k) j) w .world ≡ runOf rom input j v .world
+  pub same-end : runOf rom input (plus n j) w .world ≡ runOf rom input j v .world
 
 -- the world after n steps
 unfoldable pub after : List ℕ → List ℕ → ℕ → World → World
 after rom input zero w = w
 after rom input (suc n) w = after rom input n (stepOf rom input w .world)
 
+-- it is the world that a run of n steps leaves, where a run as long or longer is not refused
+pub run-to : (rom input : List ℕ) (n most : ℕ) (w : World) → n ≤ most → isDone (runOf rom input most w .answer) ≡ true → runOf rom input n w .world ≡ after rom input n w
+unfolding after
+run-to rom input zero most w h done = run-ended rom input w
+run-to rom input (suc n) zero w h done = absurd (omega arith)
+run-to rom input (suc n) (suc most) w h done =
+    let o = runs-on rom input most w done in
+    run-goes-on rom input n w (o .step-done) ∙ run-to rom input n most (stepOf rom input w .world) (omega arith) (o .rest-done)
+
 -- the next pass meets the same instruction
 again-there : (rom : List ℕ) (w v : World) (pair : Pair) (i : Instruction) → Went rom w v pair → decodedAt rom (w .«data») (w .m) ≡ Base i → v .m .pc ≡ w .m .pc → decodedAt rom (v .«data») (v .m) ≡ Base i
 unfolding decodedAt
 again-there rom w v pair i g is p = rw (g .cnf, p, g .program (w .m .pc)) is
 
-pub all-passed : (rom input : List ℕ) (i : Instruction) → Accumulates i → Sized rom → (k j : ℕ) (w : World) → Sized (w .«data»)
-    → decodedAt rom (w .«data») (w .m) ≡ Base i → w .m .rptc ≡ k → isDone (runOf rom input (plus (suc k) j) w .answer) ≡ true
-    → Passed rom input k j w (after rom input (suc k) w)
+pub all-passed : (rom input : List ℕ) (i : Instruction) → Accumulates i → Sized rom → (n k j : ℕ) (w : World) → Sized (w .«data»)
+    → decodedAt rom (w .«data») (w .m) ≡ Base i → w .m .rptc ≡ k → n ≤ suc k → isDone (runOf rom input (plus n j) w .answer) ≡ true
+    → Passed rom input n k j w (after rom input n w)
 unfolding plus after pairsRead passed Words Every
-all-passed rom input i acc r zero j w s is e done =
+all-passed rom input i acc r zero k j w s is e l done =
+    record {
+      accumulation = refl;
+      ovm = refl;
+      pm = refl;
+      cnf = refl;
+      pc = λ none. absurd (omega arith);
+      program = λ x. refl;
+      words = tt;
+      rest-done = done;
+      same-end = refl;
+    }
+all-passed rom input i acc r (suc zero) k j w s is e l done =
     let o = runs-on rom input j w done in
     let g = goes-on rom input w s i acc is (o .step-done) in
     record {
@@ -189,34 +210,35 @@ all-passed rom input i acc r zero j w s is e done =
       ovm = g .ovm;
       pm = g .pm;
       cnf = g .cnf;
-      pc = g .ends e;
+      pc = λ all. g .ends (omega arith);
       program = g .program;
       words = (read-sized rom input w s i acc is r, tt);
       rest-done = o .rest-done;
       same-end = o .same-end;
     }
-all-passed rom input i acc r (suc k) j w s is e done =
-    let o = runs-on rom input (plus (suc k) j) w done in
+all-passed rom input i acc r (suc (suc n)) zero j w s is e l done = absurd (omega arith)
+all-passed rom input i acc r (suc (suc n)) (suc k) j w s is e l done =
+    let o = runs-on rom input (plus (suc n) j) w done in
     let g = goes-on rom input w s i acc is (o .step-done) in
     let h = g .repeats-on k e in
     let same = again-there rom w (stepOf rom input w .world) (pairAt rom input w) i g is (h .1) in
-    let ih = all-passed rom input i acc r k j (stepOf rom input w .world) (g .sized s) same (h .0) (o .rest-done) in
+    let ih = all-passed rom input i acc r (suc n) k j (stepOf rom input w .world) (g .sized s) same (h .0) (omega arith) (o .rest-done) in
     record {
-      accumulation = ih .accumulation ∙ by-cells rom input k w g;
+      accumulation = ih .accumulation ∙ by-cells rom input (suc n) w g;
       ovm = ih .ovm ∙ g .ovm;
       pm = ih .pm ∙ g .pm;
       cnf = ih .cnf ∙ g .cnf;
-      pc = ih .pc ∙ ap (λ (p : ℕ). wrappedSum p 2) (h .1);
-      program = λ x. by-cnf rom x w (stepOf rom input w .world) (after rom input (suc k) (stepOf rom input w .world)) (g .cnf) (ih .program x) ∙ g .program x;
+      pc = λ all. ih .pc (omega arith) ∙ ap (λ (p : ℕ). wrappedSum p 2) (h .1);
+      program = λ x. by-cnf rom x w (stepOf rom input w .world) (after rom input (suc n) (stepOf rom input w .world)) (g .cnf) (ih .program x) ∙ g .program x;
       words = (read-sized rom input w s i acc is r, ih .words);
       rest-done = ih .rest-done;
       same-end = o .same-end ∙ ih .same-end;
     }
   where
-    by-cells : (rom input : List ℕ) (k : ℕ) (w : World) → Went rom w (stepOf rom input w .world) (pairAt rom input w)
-        → passed (stepOf rom input w .world .m .pm) (stepOf rom input w .world .m .ovm) (pairsRead rom input (suc k) (stepOf rom input w .world)) (accumulationOf (stepOf rom input w .world .m))
-        ≡ passed (w .m .pm) (w .m .ovm) (pairsRead rom input (suc k) (stepOf rom input w .world)) (accumulated (w .m .pm) (w .m .ovm) (pairAt rom input w) (accumulationOf (w .m)))
-    by-cells rom input k w g = rw (g .pm, g .ovm, g .accumulation)
+    by-cells : (rom input : List ℕ) (n : ℕ) (w : World) → Went rom w (stepOf rom input w .world) (pairAt rom input w)
+        → passed (stepOf rom input w .world .m .pm) (stepOf rom input w .world .m .ovm) (pairsRead rom input n (stepOf rom input w .world)) (accumulationOf (stepOf rom input w .world .m))
+        ≡ passed (w .m .pm) (w .m .ovm) (pairsRead rom input n (stepOf rom input w .world)) (accumulated (w .m .pm) (w .m .ovm) (pairAt rom input w) (accumulationOf (w .m)))
+    by-cells rom input n w g = rw (g .pm, g .ovm, g .accumulation)
 
     by-cnf : (rom : List ℕ) (x : ℕ) (w v u : World) → v .m .cnf ≡ w .m .cnf → programWord (v .m .cnf) x rom (u .«data») ≡ programWord (v .m .cnf) x rom (v .«data»)
         → programWord (w .m .cnf) x rom (u .«data») ≡ programWord (w .m .cnf) x rom (v .«data»)

@@ -62,12 +62,17 @@ pub record RunsOn (rom input : List ℕ) (n : ℕ) (w : World) : Type 0 where
   pub rest-done : isDone (runOf rom input n (stepOf rom input w .world) .answer) ≡ true
   pub same-end : runOf rom input (suc n) w .world ≡ runOf rom input n (stepOf rom input w .world) .world
 
+-- the steps after one that is done
+pub run-goes-on : (rom input : List ℕ) (n : ℕ) (w : World) → isDone (stepOf rom input w .answer) ≡ true → runOf rom input (suc n) w .world ≡ runOf rom input n (stepOf rom input w .world) .world
+unfolding runOf
+run-goes-on rom input n w e = rw e
+
 pub runs-on : (rom input : List ℕ) (n : ℕ) (w : World) → isDone (runOf rom input (suc n) w .answer) ≡ true → RunsOn rom input n w
 unfolding runOf
 runs-on rom input n w h = by (isDone (stepOf rom input w .answer)) refl h
   where
     by : (t : Bool) → isDone (stepOf rom input w .answer) ≡ t → isDone (runOf rom input (suc n) w .answer) ≡ true → RunsOn rom input n w
-    by true e h = record { step-done = e; rest-done = rw e at h; same-end = rw e }
+    by true e h = record { step-done = e; rest-done = rw e at h; same-end = run-goes-on rom input n w e }
     by false e h = absurd (false≢true (sym e ∙ (rw e at h)))
 
 pub run-ended : (rom input : List ℕ) (w : World) → runOf rom input 0 w .world ≡ w

@@ -2,7 +2,8 @@
 use mathlib.Core.Path.{_≡_}
 use mathlib.Core.Bool.{true}
 use mathlib.Core.List.{List, [], _∷_}
-use Prim.Native.Nat.{ℕ, zero, suc, _+_, _%_, _^_, _<_}
+use mathlib.Core.Logic.{_↔_}
+use Prim.Native.Nat.{ℕ, zero, suc, _+_, _%_, _^_, _≤_, _<_}
 use lib.ListN.{getD}
 use Rattle.alu.specs.Word.{signed}
 use Rattle.alu.specs.Registers.{wrappedSum}
@@ -23,7 +24,7 @@ use Rattle.steps.specs.Pass.{wordsRead}
 use Rattle.steps.specs.World.{World}
 use Rattle.steps.specs.Table.{decodedAt, secondWord}
 use Rattle.steps.specs.Step.{stepOf, runOf}
-use Rattle.frames.specs.Frames.{Pair, Near, exactSum}
+use Rattle.frames.specs.Frames.{Pair, Near, exactSum, AllLeast}
 
 -- ---- the words that the passes read, taken from the run itself
 
@@ -89,7 +90,17 @@ lastWorld rom input w k = runOf rom input (k + 3) w .world
 unfoldable pub words : List ℕ → List ℕ → World → ℕ → List Pair
 words rom input w k = pairsRead rom input (suc k) (stepOf rom input w .world)
 
--- "OV stays 0 and 0 <= S - 64 A <= 63 n"
+-- "OV stays 0": it is 0 at the start, and after each of these steps of the run
+abbrev pub StaysZero : List ℕ → List ℕ → World → ℕ → Type 0
+StaysZero rom input w steps = (j : ℕ) → j ≤ steps → runOf rom input j w .world .m .ov ≡ 0
+
+-- "OV stays 0 and 0 <= S - 64 A <= 63 n": OV after each of the n + 2 steps, A after the last
 pub record Holds (rom input : List ℕ) (w : World) (k : ℕ) : Type 0 where
-  pub ov : lastWorld rom input w k .m .ov ≡ 0
+  pub ov : StaysZero rom input w (k + 3)
   pub near : Near (suc k) (exactSum (words rom input w k)) (signed 32 (lastWorld rom input w k .m .acc))
+
+-- "for n = 128 OV is set exactly when all 256 words read are -32768, and otherwise the same bounds hold": no step before the last sets it, whatever the words are
+pub record HoldsAt128 (rom input : List ℕ) (w : World) (k : ℕ) : Type 0 where
+  pub before-the-last : StaysZero rom input w (k + 2)
+  pub set-by-the-last : lastWorld rom input w k .m .ov ≡ 1 ↔ AllLeast (words rom input w k)
+  pub otherwise : (AllLeast (words rom input w k) → ⊥) → Holds rom input w k

@@ -36,13 +36,14 @@ use Rattle.stacking_cases.specs.Cases.{romWith, worldWith, runWith}
 abbrev pub shown : RunOutcome → List ℕ
 shown r = numberOf (r .answer) ∷ r .steps ∷ r .world .m .acc ∷ r .world .m .ov ∷ []
 
--- n = 127 of all -32768, with holding; n = 128 of them, with holding and without; n = 128 with one word changed
+-- n = 127 of all -32768, with holding; n = 128 of them, with holding and without, and before the last step; n = 128 with one word changed
 pub record Computed : Type 0 where
   pub all-127 : shown (runWith 126 0x8000 1) ≡ 0 ∷ 129 ∷ 0x7F00_0000 ∷ 0 ∷ []
   pub all-128-held : shown (runWith 127 0x8000 1) ≡ 0 ∷ 130 ∷ 0x7FFF_FFFF ∷ 1 ∷ []
   pub all-128-turned-over : shown (runWith 127 0x8000 0) ≡ 0 ∷ 130 ∷ 0x8000_0000 ∷ 1 ∷ []
+  pub all-128-before-the-last : shown (runOf (romWith 127 0x8000) [] 129 (worldWith 1)) ≡ 0 ∷ 129 ∷ 0x7F00_0000 ∷ 0 ∷ []
   pub one-changed-128 : shown (runWith 127 0x8001 1) ≡ 0 ∷ 130 ∷ 0x7FFF_FE00 ∷ 0 ∷ []
 
 pub computed : Computed
 unfolding signed low holds held settled carry noBorrow added subtracted product productWord scaled amountOf shiftedProduct productHigh productLow wrappedSum wrappedDifference reversed reversedSum resetMachine inRange lowFits modificationOf nextOf indirectOf addressOf decodeOf traitsOf multiplierTraits moved pointed modified addressed addressing.addressOf APAC tableAddress multiplierRule ruleOf followed destination dataRegion dataPresent inRom inProgramB0 programPresent memoriesFit portFits portSpent slicesFit windowOf programWord firstGiven accesses wrongPort sends addressAbove dataAbsent tableAbsent outputFull readWord wordsRead effectOf writeOf passedMachine passedWrite performed dataAfter outputAfter decodedAt secondAddress secondWord notRepeatable secondAbsent tableFor refusalOf pagePlan planOf stored stepOf modesTraits MAC RPTK modesRule checksOf runOf romWith worldWith runWith
-computed = record { all-127 = refl; all-128-held = refl; all-128-turned-over = refl; one-changed-128 = refl }
+computed = record { all-127 = refl; all-128-held = refl; all-128-turned-over = refl; all-128-before-the-last = refl; one-changed-128 = refl }

@@ -1,12 +1,9 @@
 -- The figure is 127, and nothing else is one. The guide's SPM page ("128 .. without the possibility of overflow") is refuted.
 use mathlib.Core.Path.{_≡_, refl, sym, _∙_, ap}
-use mathlib.Core.Bool.{Bool, true, false, _&&_, false≢true}
-use mathlib.Core.List.{List, [], _∷_}
-use Prim.Native.Nat.{ℕ, zero, suc, _^_, _<_}
+use mathlib.Core.List.{List, []}
+use Prim.Native.Nat.{ℕ, _+_, _<_}
 use native.Mathlib.Omega.{arith, by-contra, both-ways}
-use lib.Dec.{ltb}
 use lib.ListN.{getD}
-use borrow.Author.Tests.{ltb-true}
 use Rattle.alu.specs.Registers.{wrappedSum}
 use Rattle.machine.specs.Reset.{resetMachine}
 use Rattle.answers.specs.declared.Answer.the-variants.{Done}
@@ -22,29 +19,12 @@ use Rattle.dma.specs.declared.Address.the-variants.{Direct}
 use Rattle.instructions.specs.declared.Modes.the-variants.{Rptk}
 use Rattle.instructions.specs.declared.Multiplier.the-variants.{Mac}
 use Rattle.steps.specs.World.{World}
-use Rattle.stacking.specs.Stacking.{wordAhead, by-rptk, by-mac, Sized, Stacks, lastWorld}
+use Rattle.stacking.specs.Stacking.{wordAhead, by-rptk, by-mac, Stacks, lastWorld}
 use Rattle.stacking.specs.Demand.{demand}
 use Rattle.stacking_cases.specs.Cases.{romWith, worldWith, runWith}
 use Rattle.stacking_cases.specs.CaseLaws.{computed}
+use Rattle.stacking_cases.specs.SizedLaws.{allSized, sized-by}
 use Rattle.stacking.specs.Label.{Overflows, MostFrames}
-
--- a list whose words all have 16 bits, by a test
-allSized : List ℕ → Bool
-allSized [] = true
-allSized (x ∷ xs) = ltb x 65536 && allSized xs
-
-both : (a b : Bool) → a && b ≡ true → (a ≡ true) × (b ≡ true)
-both true b h = (refl, h)
-both false b h = absurd (false≢true h)
-
-sized-at : (l : List ℕ) → allSized l ≡ true → (i : ℕ) → getD l i 0 < 2 ^ 16
-unfolding allSized
-sized-at [] h i = omega arith
-sized-at (x ∷ xs) h zero = ltb-true x 65536 (both _ _ h .0)
-sized-at (x ∷ xs) h (suc i) = sized-at xs (both (ltb x 65536) _ h .1) i
-
-sized-by : (l : List ℕ) → allSized l ≡ true → Sized l
-sized-by l h = record { bits = sized-at l h }
 
 -- 128 frames of -32768 alone; the run is that of the cases
 pub overflows-128 : Overflows 127
@@ -80,9 +60,10 @@ most-127 = record { safe = λ rom input w k s h. demand rom input w k s h .ov; t
 
 -- a figure below the other would let the other's stack overflow
 not-below : (n n′ : ℕ) → MostFrames n → MostFrames n′ → n < n′ → ⊥
+unfolding lastWorld
 not-below n n′ a b h =
     let t = a .tight in
-    let o = b .safe (t .rom) (t .input) (t .w) n (t .stacks) (omega arith) in
+    let o = b .safe (t .rom) (t .input) (t .w) n (t .stacks) (omega arith) (n + 3) (omega arith) in
     let z : _≡_ {A = ℕ} 0 1 = sym o ∙ t .overflowed in
     omega arith
 
