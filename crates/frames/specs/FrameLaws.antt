@@ -14,7 +14,7 @@ use Rattle.frames.specs.PassSums.{floors, from-zero, add-fits, add-over,
 
 -- In up to 128 passes OV stays 0: only the final product add can set it
 pub passes-keep-ov : (ws : List Pair) (ovm : ℕ) → length ws ≤ 128 → Words ws → passed 3 ovm ws fromZero .ov ≡ 0
-passes-keep-ov ws ovm l words = from-zero ws ovm words l .ov-zero
+passes-keep-ov ws ovm l words = from-zero ws ovm words (omega arith) .ov-zero
 
 module _ (ws : List Pair) (n ovm : ℕ) (frames : length ws ≡ n) (words : Words ws) where
   -- where the final sum fits

@@ -158,7 +158,7 @@ module _ (rom input : List ℕ) (w : World) (k : ℕ) (s : Stacks rom input w k)
   pub demand : suc k ≤ 127 → Holds rom input w k
   unfolding accumulationOf
   demand h =
-      let b = below-128 (words rom input w k) (suc k) (w .m .ovm) count fit (omega arith) h in
+      let b = below-128 (words rom input w k) (suc k) (w .m .ovm) count fit (omega arith) (omega arith) in
       record {
         ov = zero-to-last (omega arith) (ap (λ (x : Accumulation). x .ov) comes-to ∙ b .0);
         near = rw (ap (λ (x : Accumulation). x .acc) comes-to) (b .1);
