@@ -43,7 +43,7 @@ edgeRun = runOf edgeRom [] 6 edgeWorld
 
 -- What document 01's rules come to, by hand. RPT takes the count 3, leaves MID 0, since it is not repeatable, and PC is FFFFh + 1 = 0000h. The first pass reads -3 at 0300h
 -- and copies it to 0301h, where the second reads it, and so on, so each product is -3 times a word of the table: -3, -6, -300, -98301. With product shift 3 each is
--- divided by 64 and rounded down: -1, -1, -5, -1536. A is their sum, -1543; S is -98610, and S - 64 A = 142 is within 63 x 4.
+-- divided by 64 and rounded down: -1, -1, -5, -1536. A is their sum, -1543 (FFFFF9F9h); S is -98610, and S - 64 A = 142 is within 63 x 4.
 pub record EdgeCase : Type 0 where
   -- answer, steps, ACC, OV
   pub comes-to : numberOf (edgeRun .answer) ∷ edgeRun .steps ∷ edgeRun .world .m .acc ∷ edgeRun .world .m .ov ∷ [] ≡ 0 ∷ 6 ∷ 0xFFFF_F9F9 ∷ 0 ∷ []
