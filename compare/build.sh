@@ -4,22 +4,16 @@
 # The library is made where it is missing or older than a source.
 library=$top/target/staticlib/libdesktop.a
 program=$top/target/compare
-newer() { find "$top/crates" "$top/crates.txt" -newer "$library" | head -n 1; }
-if [ ! -f "$library" ] || [ -n "$(newer)" ]; then
-    (cd "$top" && rt staticlib desktop </dev/null >&2)
-fi
+. "$top/tools/build.sh"
+build_library desktop
 # The library is for x86-64; on another processor a cross compiler and the
 # kit's emulator take the place of the machine's own. The emulator is slow
 # where a loop lies across two pages: aligned, the plain side is at its best.
 compiler=${CC:-cc}
-emulator=
 more=
-if [ "$(uname -m)" != x86_64 ]; then
+if [ -n "$emulator" ]; then
     compiler=${CC:-x86_64-linux-gnu-gcc}
     more='-static -falign-functions=4096'
-    rt=$(readlink -f "$(command -v rt)")
-    kit=${RATTLE_HOME:-$(dirname "$(dirname "$rt")")}
-    emulator=$kit/on/$(uname -m)/toolchain/bin/qemu-x86_64
 fi
 cd "$top/compare"
 # shellcheck disable=SC2086

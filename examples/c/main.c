@@ -28,6 +28,10 @@ int main(void)
     uint16_t budget;
     uint32_t answer, steps;
 
+    if (ferror(stdin)) {
+        perror("the run file could not be read");
+        return 1;
+    }
     answer = crowmitten_read(bytes, length, &input_count, &budget);
     if (answer == CROWMITTEN_DONE)
         answer = crowmitten_set_up(bytes, length, rom, CROWMITTEN_MEMORY_WORDS, data,

@@ -1,0 +1,84 @@
+# shellcheck shell=sh disable=SC2154
+# Read by replay, examples/c/run and compare/build.sh with `top` set to the repository's folder: build_program and build_library prove and build what
+# is missing or older than a source; `tools` is the toolchain's folder for this machine, `emulator` its emulator, where programs for x86-64 need one.
+
+command -v rt >/dev/null || { echo "rt, the Rattle toolchain, is not on the path" >&2; exit 1; }
+rt=$(readlink -f "$(command -v rt)")
+tools=${RATTLE_HOME:-$(dirname "$(dirname "$rt")")}/on/$(uname -m)/toolchain
+emulator=$tools/bin/qemu-x86_64
+[ -x "$emulator" ] || emulator=
+
+build_program() { build "$1" "target/bin/$1" make_program; }
+
+build_library() { build "$1" "target/staticlib/lib$1.a" make_library; }
+
+make_program() { # NAME FILE
+    # A stamp without its program would have rt build nothing.
+    [ -e "$2" ] || rm -f "target/stamp/$1"
+    rt check "$1"
+}
+
+# rt proves what a library needs one after another, but the crates that it is told to check beside each other.
+make_library() { # NAME FILE
+    # shellcheck disable=SC2046
+    rt check $(needed "$1" | grep -vx "$1") && rt staticlib "$1"
+}
+
+# Has MAKE make FILE, unless that was done after the last change of a source. rt tells what is old by its content: the mark is for what it found current, too.
+build() ( # NAME FILE MAKE
+    cd "$top" || exit
+    mark=target/built/$1
+    if [ -e "$2" ] && [ -e "$mark" ] && [ -z "$(newer_sources "$1" "$mark")" ]; then exit; fi
+    mkdir -p target/built
+    [ -e "$2" ] || echo "$1 is proved and built first, which takes some minutes" >&2
+    rm -f "$mark.made"
+    # set before rt reads anything, so that a source changed meanwhile is newer
+    : >"$mark.begun"
+    { "$3" "$1" "$2" </dev/null 2>&1 && : >"$mark.made"; } | show_progress "$(needed "$1" | wc -l)" "$mark.log"
+    if [ ! -e "$mark.made" ]; then
+        cat "$mark.log" >&2
+        exit 1
+    fi
+    mv "$mark.begun" "$mark"
+)
+
+# A crate, and by crates.txt all that it stands on.
+needed() { # NAME
+    awk -v name="$1" '
+        function visit(crate, parts, n, i) {
+            if (!(crate in below) || seen[crate]++) return
+            print crate
+            n = split(below[crate], parts, " ")
+            for (i = 1; i <= n; i++) visit(parts[i])
+        }
+        { sub(/#.*/, "") }
+        /:/ { split($0, part, ":"); below[part[1]] = part[2] }
+        END { visit(name) }' crates.txt
+}
+
+# The first file or folder of those crates that is newer than the mark, if any.
+newer_sources() { # NAME MARK
+    # shellcheck disable=SC2046
+    find crates.txt $(needed "$1" | sed 's,^,crates/,') -name must-fail -prune -o -newer "$2" -print | head -n 1
+}
+
+# Keeps what rt prints in a file, and tells how many crates are proved: on a terminal in one line that is written over, otherwise at each quarter.
+show_progress() { # CRATES LOG
+    seen='' count=0 quarter=0 end=
+    while IFS= read -r line; do
+        printf '%s\n' "$line" >&3
+        case $line in 'rt: '*' proved ('* | 'rt: target/staticlib/'*) ;; *) continue ;; esac
+        name=${line#rt: } name=${name%% *}
+        case " $seen " in *" $name "*) continue ;; esac
+        seen="$seen $name" count=$((count + 1))
+        case $line in *'(unchanged '*) continue ;; esac
+        if [ -t 2 ]; then
+            printf '\rproved: %d of %d crates' "$count" "$1" >&2
+            end='\n'
+        elif [ "$((4 * count / $1))" -gt "$quarter" ]; then
+            echo "proved: $count of $1 crates" >&2
+            quarter=$((4 * count / $1))
+        fi
+    done 3>"$2"
+    printf %b "$end" >&2
+}
