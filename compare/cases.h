@@ -6,6 +6,9 @@
 
 enum { KIND_STEP = 1, KIND_RUN, KIND_FILE, KIND_VIEW, KIND_WORD };
 
+/* Every call of the library with empty slices, lent as NULL. */
+void compare_empty(void);
+
 /* One step of every word, from a state drawn by chance. */
 void compare_words(uint64_t seed);
 

@@ -24,6 +24,7 @@ static int compare_all(uint64_t cases, uint64_t seed)
     if (!words_sort())
         report_missing("the base's", "75 pages");
     printf("seed %" PRIu64 "\n", seed);
+    compare_empty();
     compare_words(seed);
     compare_steps(seed, cases);
     compare_runs(seed, cases / 50);

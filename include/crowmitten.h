@@ -3,9 +3,8 @@
  *
  * The library keeps nothing between calls: the machine is the caller's own
  * numbers, its 34 cells, two memories and two ports. A slice is a pointer and
- * its length in elements. The pointer is valid also where the length is 0, and
- * no two slices or numbers that are lent to one call overlap unless both are
- * const.
+ * its length in elements; where the length is 0 the pointer may be NULL. No two
+ * slices or numbers that are lent to one call overlap unless both are const.
  *
  * Every function gives an answer of the table below. A refusal changes no cell,
  * no memory and no port, and the numbers that it gives back are 0; only a run

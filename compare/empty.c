@@ -1,0 +1,104 @@
+/* Empty slices, lent as NULL: what each call of the library answers. */
+#include "cases.h"
+#include "report.h"
+
+#include "crowmitten.h"
+
+#include <stdio.h>
+
+static uint32_t cells[CROWMITTEN_CELLS];
+static uint16_t rom[CROWMITTEN_MEMORY_WORDS];
+static uint16_t data[CROWMITTEN_MEMORY_WORDS];
+static uint8_t bytes[CROWMITTEN_FILE_BYTES_MAX];
+
+static void expect(const char *call, uint64_t want, uint64_t got)
+{
+    if (want != got && report_difference(call, 0, 0))
+        report_number("wanted, got", want, got);
+}
+
+/* Numbers that a call must change. */
+enum { OTHER = 77 };
+
+static void empty_cells(void)
+{
+    uint32_t steps = OTHER, memory = OTHER;
+    size_t from = OTHER, count = OTHER, sent = OTHER;
+    expect("reset", 2, crowmitten_reset(NULL, 0));
+    expect("step", 2, crowmitten_step(NULL, 0, NULL, 0, NULL, 0, NULL, 0,
+                                      NULL, 0));
+    expect("run", 2, crowmitten_run(NULL, 0, NULL, 0, NULL, 0, NULL, 0,
+                                    NULL, 0, 1, &steps));
+    expect("window", 2, crowmitten_window(NULL, 0, NULL, 0, NULL, 0, 0,
+                                          &memory, &from, &count));
+    expect("words sent", 2, crowmitten_words_sent(NULL, 0, NULL, 0, &sent));
+    expect("counts", 0, steps + memory + from + count + sent);
+}
+
+static void empty_memories(void)
+{
+    uint32_t steps = OTHER, memory = OTHER;
+    size_t from = OTHER, count = OTHER;
+    crowmitten_reset(cells, CROWMITTEN_CELLS);
+    expect("step", 2, crowmitten_step(cells, CROWMITTEN_CELLS, NULL, 0, NULL,
+                                      0, NULL, 0, NULL, 0));
+    expect("run", 2, crowmitten_run(cells, CROWMITTEN_CELLS, NULL, 0, NULL, 0,
+                                    NULL, 0, NULL, 0, 1, &steps));
+    expect("window", 2, crowmitten_window(cells, CROWMITTEN_CELLS, NULL, 0,
+                                          NULL, 0, 0, &memory, &from, &count));
+    expect("counts", 0, steps + memory + from + count);
+}
+
+/* IN of a dry port stores 0; OUT to a full one is refused. */
+static void empty_ports(void)
+{
+    uint32_t steps = OTHER;
+    size_t sent = OTHER;
+    crowmitten_reset(cells, CROWMITTEN_CELLS);
+    rom[0] = 0x8060; /* IN 60h, PA0 */
+    rom[1] = 0xE160; /* OUT 60h, PA1 */
+    data[0x60] = OTHER;
+    expect("step", 0, crowmitten_step(cells, CROWMITTEN_CELLS, rom,
+                                      CROWMITTEN_MEMORY_WORDS, data,
+                                      CROWMITTEN_MEMORY_WORDS, NULL, 0, NULL,
+                                      0));
+    expect("word of a dry port", 0, data[0x60]);
+    crowmitten_reset(cells, CROWMITTEN_CELLS);
+    expect("run", 10, crowmitten_run(cells, CROWMITTEN_CELLS, rom,
+                                     CROWMITTEN_MEMORY_WORDS, data,
+                                     CROWMITTEN_MEMORY_WORDS, NULL, 0, NULL, 0,
+                                     2, &steps));
+    expect("steps", 1, steps);
+    expect("words sent", 0, crowmitten_words_sent(cells, CROWMITTEN_CELLS,
+                                                  NULL, 0, &sent));
+    expect("count", 0, sent);
+}
+
+static void empty_files(void)
+{
+    size_t count = OTHER, inputs = OTHER;
+    uint16_t budget = OTHER;
+    expect("read", 20, crowmitten_read(NULL, 0, &inputs, &budget));
+    expect("set up", 20, crowmitten_set_up(NULL, 0, NULL, 0, NULL, 0, NULL, 0));
+    expect("write", 23, crowmitten_write(NULL, 0, NULL, 0, NULL, 0, 5, NULL, 0,
+                                         &count));
+    expect("counts", 0, inputs + budget + count);
+    expect("write", 0, crowmitten_write(NULL, 0, NULL, 0, NULL, 0, 5, bytes,
+                                        sizeof bytes, &count));
+    expect("bytes", 16, count);
+    expect("set up", 2, crowmitten_set_up(bytes, count, NULL, 0, NULL, 0, NULL,
+                                          0));
+    expect("set up", 0, crowmitten_set_up(bytes, count, rom,
+                                          CROWMITTEN_MEMORY_WORDS, data,
+                                          CROWMITTEN_MEMORY_WORDS, NULL, 0));
+    expect("word of an empty program", 0, rom[0]);
+}
+
+void compare_empty(void)
+{
+    empty_cells();
+    empty_memories();
+    empty_ports();
+    empty_files();
+    printf("empty slices: each of the eight calls, with NULL\n");
+}
