@@ -1,8 +1,9 @@
-# Reads docs/CLAIMS.md and the sources, and prints the table of all definitions that the statements named there rest on.
+# Reads docs/CLAIMS.md and the sources, and prints the table of all definitions that the contracts of exported functions and the theorems named there
+# rest on.
 #
-# The roots are the names that stand there in backquotes: in a column "function", of exported functions, whose contracts are meant; in a column
-# "theorem", and before a "(crates/..)" in the text, of laws and definitions too. A law needs what its statement names, a definition what its body
-# names besides, a declared type what its fields name. What is needed is followed to its end.
+# A theorem is named in backquotes, in a column "theorem" or before a "(crates/..)" in the text; what a column "function" names must be there, too. A
+# contract or a law needs what its statement names, a definition what its body names besides, a declared type what its fields name. What is needed is
+# followed to its end.
 
 # ---- texts and names
 
@@ -135,6 +136,7 @@ FILENAME ~ /\.rt$/ {
     }
     if (text ~ /^ *\/\//) { comments++; next }
     if (text ~ /^ *#\[/) next
+    if (text ~ /^mod /) is_private["crates/" crate "/src/" name_after("^mod ", text) ".rt"] = 1
     if (text ~ /^(pub )?(struct|enum) /) {
         name = name_after("^(pub )?(struct|enum) ", text)
         current = "type " crate " " name
@@ -144,9 +146,10 @@ FILENAME ~ /\.rt$/ {
         types[FILENAME, ++type_count[FILENAME]] = current
     } else if (text ~ /^ *pub ([A-Za-z"]+ )*fn /) {
         name = name_after("^.*fn ", text)
-        current = "contract " crate " " name
+        current = "contract " FILENAME " " name
         file_of[current] = FILENAME
         contracts[name] = contracts[name] "\n" current
+        functions[++function_count] = current
     }
     comments = 0
     if (current == "") next
@@ -278,6 +281,7 @@ function print_types(file, i, what, read, names_read) {
 }
 
 END {
+    for (i = 1; i <= function_count; i++) if (!(file_of[functions[i]] in is_private)) need(functions[i])
     for (i = 1; i <= claims; i++) root(claimed[i], beside[i], is_function[i])
     if (failed) exit 1
     for (done = 1; done <= ends; done++) follow(todo[done])
