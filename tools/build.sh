@@ -18,13 +18,14 @@ make_program() { # NAME FILE
     rt check "$1"
 }
 
-# rt proves what a library needs one after another, but the crates that it is told to check beside each other.
+# `rt staticlib` proves the crates below a library one after another, `rt check` several at a time.
 make_library() { # NAME FILE
     # shellcheck disable=SC2046
     rt check $(needed "$1" | grep -vx "$1") && rt staticlib "$1"
 }
 
-# Has MAKE make FILE, unless that was done after the last change of a source. rt tells what is old by its content: the mark is for what it found current, too.
+# Runs MAKE for FILE unless that was done after the last change of a source. rt compares contents and can find a newer source unchanged: the mark is set
+# then too, so that it is not asked again.
 build() ( # NAME FILE MAKE
     cd "$top" || exit
     mark=target/built/$1
@@ -32,7 +33,7 @@ build() ( # NAME FILE MAKE
     mkdir -p target/built
     [ -e "$2" ] || echo "$1 is proved and built first, which takes some minutes" >&2
     rm -f "$mark.made"
-    # set before rt reads anything, so that a source changed meanwhile is newer
+    # from before rt reads anything, so that a source that is changed meanwhile is newer
     : >"$mark.begun"
     { "$3" "$1" "$2" </dev/null 2>&1 && : >"$mark.made"; } | show_progress "$(needed "$1" | wc -l)" "$mark.log"
     if [ ! -e "$mark.made" ]; then
