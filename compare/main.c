@@ -1,7 +1,8 @@
 /*
  * compare CASES SEED: feeds both emulators the same worlds.
  * compare bench: measures their speed.
- * compare once LOAD SIDE BUDGET: one run of the benchmark, and no output.
+ * compare once LOAD SIDE BUDGET: one run of the benchmark, or (sides 2 and 3)
+ * its steps by calls, and no output.
  */
 #include "cases.h"
 #include "report.h"

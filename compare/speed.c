@@ -1,6 +1,7 @@
 /*
- * Steps per second of `run` on both emulators: the same programs from reset,
- * turn about in short spells of processor time, the fastest spell counted.
+ * Steps per second on both emulators, of `run` and of calls of `step`: the same
+ * programs from reset, turn about in short spells of processor time, the
+ * fastest spell counted.
  */
 #include "cases.h"
 #include "world.h"
@@ -100,6 +101,33 @@ static struct outcome once_proved(uint16_t budget)
     return run_proved(&world, budget);
 }
 
+/* As many calls of one step each. */
+static struct outcome calls(struct outcome step(struct world *w), uint16_t count)
+{
+    struct outcome out = { PLAIN_DONE, 0 };
+    while (out.answer == PLAIN_DONE && out.steps < count) {
+        out.answer = step(&world).answer;
+        out.steps++;
+    }
+    return out;
+}
+
+static struct outcome calls_plain(uint16_t count)
+{
+    plain_reset(&world.plain.machine);
+    return calls(step_plain, count);
+}
+
+static struct outcome calls_proved(uint16_t count)
+{
+    crowmitten_reset(world.proved.cells, PLAIN_CELLS);
+    return calls(step_proved, count);
+}
+
+/* What is measured of both sides: a run, and calls of a step. */
+static one_run *const by_run[2] = { once_plain, once_proved };
+static one_run *const by_calls[2] = { calls_plain, calls_proved };
+
 /* Any words in the memories; 0400h has AR1's start, 0401h the loop's count. */
 static void set_world(const struct workload *load)
 {
@@ -137,12 +165,13 @@ static double spell(one_run *once, uint16_t budget)
 }
 
 /* The fastest spell of each side, [0] plain and [1] proved. */
-static void rates(uint16_t budget, int spells, double fastest[2])
+static void rates(one_run *const sides[2], uint16_t budget, int spells,
+                  double fastest[2])
 {
     fastest[0] = 0;
     fastest[1] = 0;
     for (int i = 0; i < 2 * spells; i++) {
-        double rate = spell(i % 2 == 0 ? once_plain : once_proved, budget);
+        double rate = spell(sides[i % 2], budget);
         if (rate > fastest[i % 2])
             fastest[i % 2] = rate;
     }
@@ -170,7 +199,7 @@ static void print_growth(const struct workload *load)
            "ns");
     for (uint32_t budget = 1000; budget <= 64000; budget *= 2) {
         double rate[2];
-        rates((uint16_t)budget, 3, rate);
+        rates(by_run, (uint16_t)budget, 3, rate);
         printf("  %6" PRIu32, budget);
         for (int i = 0; i < 2; i++) {
             double ns = 1e9 / rate[i];
@@ -187,12 +216,20 @@ static void print_growth(const struct workload *load)
 
 int run_once(uint64_t load, uint64_t side, uint64_t budget)
 {
-    if (load >= sizeof workloads / sizeof workloads[0] || budget > 65535)
+    if (load >= sizeof workloads / sizeof workloads[0] || side > 3
+        || budget > 65535)
         return 2;
     set_world(&workloads[load]);
-    struct outcome out = side == 0 ? once_plain((uint16_t)budget)
-                                   : once_proved((uint16_t)budget);
+    one_run *once = side < 2 ? by_run[side] : by_calls[side - 2];
+    struct outcome out = once((uint16_t)budget);
     return out.answer == PLAIN_DONE && out.steps == budget ? 0 : 1;
+}
+
+static void print_rates(const char *name, const double rate[2])
+{
+    printf("  %-32s plain %10.0f   proved %10.0f   ratio %.2f\n", name,
+           rate[0], rate[1], rate[1] / rate[0]);
+    fflush(stdout);
 }
 
 int measure_speed(void)
@@ -202,11 +239,13 @@ int measure_speed(void)
     for (size_t i = 0; i < sizeof workloads / sizeof workloads[0]; i++) {
         double rate[2];
         good = runs_agree(&workloads[i]) && good;
-        rates(workloads[i].budget, SPELLS, rate);
-        printf("  %-32s plain %10.0f   proved %10.0f   ratio %.2f\n",
-               workloads[i].name, rate[0], rate[1], rate[1] / rate[0]);
-        fflush(stdout);
+        rates(by_run, workloads[i].budget, SPELLS, rate);
+        print_rates(workloads[i].name, rate);
     }
+    double rate[2];
+    good = runs_agree(&workloads[1]) && good;
+    rates(by_calls, workloads[1].budget, SPELLS, rate);
+    print_rates("(b), a call of step for each", rate);
     for (int i = 0; i < 2; i++) {
         good = runs_agree(&workloads[i]) && good;
         print_growth(&workloads[i]);

@@ -13,7 +13,9 @@ use Rattle.machine.specs.RangeLaws.{ranged}
 use Rattle.ranges.specs.Ranges.{WordSized}
 use Rattle.ranges.specs.Cells.{word-at}
 use Rattle.cells.specs.Cells.{firstCells, pointerCells, cursorCells, cellsOf, wordAt, eightAt, machineOf}
+use Rattle.cells.specs.CheckLaws.{machine-of-34}
 use Rattle.cell_reading.specs.ReadLaws.{machine-read}
+use Rattle.cell_storing.specs.StoreLaws.{cells-length}
 use Rattle.cell_laws.specs.CellLaws.{elements, elements-all}
 
 -- ---- what stands where among a machine's cells
@@ -85,7 +87,8 @@ pub machine-cells : (m : Machine) → WordSized m → inRange m ≡ true → mac
 unfolding eightAt wordsFrom cellsOf firstCells pointerCells cursorCells
 machine-cells m h range =
     let r = ranged m range in
-    sym
+    machine-of-34 (cellsOf m) (cells-length m (h .ar-count) (h .stack-count))
+    ∙ sym
     (machine-read (cellsOf m)
     (eight-words (cellsOf m) (m .stack .words) 24 (h .stack-count) (stack-at m h) (λ k. word-at (m .stack .words) k (h .stack)))
     refl
@@ -103,7 +106,7 @@ machine-cells m h range =
     (held-small (pointer-at m h 6) (omega (arith, r .sxm)))
     (held-small (pointer-at m h 7) (omega (arith, r .c)))
     (held-small (pointer-at m h 8) (omega (arith, r .cnf)))
-    (held-small (pointer-at m h 9) (omega (arith, r .mid)))
+    (held-word (pointer-at m h 9) (omega (arith, r .mid)))
     (held-word (pointer-at m h 10) (omega (arith, r .rptc)))
     (held-word (cursor-at m h 0) (omega (arith, r .input-cursor)))
     (held-word (cursor-at m h 1) (omega (arith, r .output-cursor))))

@@ -10,9 +10,9 @@ use lib.Seq.{drop-cons, drop-length}
 use native.Mathlib.Nat.{mod-eq-of-lt}
 use borrow.Author.Tests.{leb-true, ltb-true, ltb-false}
 use Rattle.answers.specs.Numbers.{isDone}
-use Rattle.cells.specs.Cells.{firstCells, pointerCells, cursorCells, cellsOf, eightAt, machineOf}
+use Rattle.cells.specs.Cells.{firstCells, pointerCells, cursorCells, cellsOf, eightAt, machineFrom, machineOf}
 use Rattle.cells.specs.Checks.{limits, withinLimits, cellsAnswer}
-use Rattle.cells.specs.CheckLaws.{cells-kept}
+use Rattle.cells.specs.CheckLaws.{cells-kept, machine-of-34}
 
 -- ---- every cell at most its limit
 
@@ -56,7 +56,7 @@ widths : List ℕ
 widths =
     4294967296 ∷ 4294967296 ∷ 65536 ∷ 65536 ∷ 65536
     ∷ 65536 ∷ 65536 ∷ 65536 ∷ 65536 ∷ 65536 ∷ 65536 ∷ 65536 ∷ 65536
-    ∷ 256 ∷ 256 ∷ 65536 ∷ 256 ∷ 256 ∷ 256 ∷ 256 ∷ 256 ∷ 256 ∷ 256 ∷ 65536
+    ∷ 256 ∷ 256 ∷ 65536 ∷ 256 ∷ 256 ∷ 256 ∷ 256 ∷ 256 ∷ 256 ∷ 65536 ∷ 65536
     ∷ 65536 ∷ 65536 ∷ 65536 ∷ 65536 ∷ 65536 ∷ 65536 ∷ 65536 ∷ 65536
     ∷ 65536 ∷ 65536 ∷ []
 
@@ -83,8 +83,8 @@ held-same cells f zero i h = refl
 held-same cells f (suc n) i h =
     rw (mod-eq-of-lt (f i (omega arith)), held-same cells f n (suc i) (omega arith))
 
-machine-held : (cells : List ℕ) → cellsOf (machineOf cells) ≡ getD cells 0 0 ∷ getD cells 1 0 ∷ held 32 2 cells
-unfolding cellsOf machineOf firstCells pointerCells cursorCells eightAt held widths
+machine-held : (cells : List ℕ) → cellsOf (machineFrom cells) ≡ getD cells 0 0 ∷ getD cells 1 0 ∷ held 32 2 cells
+unfolding cellsOf machineFrom firstCells pointerCells cursorCells eightAt held widths
 machine-held cells = refl
 
 -- a machine read from cells that pass the checks has those cells
@@ -93,6 +93,7 @@ unfolding limits widths limitsHeld elements
 cells-machine cells h =
     let k = cells-kept cells h in
     let below : (i : ℕ) → i < 34 → getD cells i 0 < getD widths i 0 = λ i b. omega (arith, within-at cells 34 (k .within) i b, held-at 34 refl i b) in
-    machine-held cells
+    ap cellsOf (machine-of-34 cells (k .count))
+    ∙ machine-held cells
     ∙ ap (λ (rest : List ℕ). getD cells 0 0 ∷ getD cells 1 0 ∷ rest) (held-same cells below 32 2 (omega arith))
     ∙ sym (elements-all cells 34 0 (sym (k .count)))

@@ -14,19 +14,21 @@ use Rattle.ranges.specs.Ranges.{WordSized}
 use Rattle.ranges.specs.Cells.{word-at}
 use Rattle.answers.specs.declared.Answer.the-variants.{Done, CellOutOfRange}
 use Rattle.answers.specs.Numbers.{isDone}
-use Rattle.cells.specs.Cells.{firstCells, pointerCells, cursorCells, cellsOf, machineOf}
+use Rattle.cells.specs.Cells.{firstCells, pointerCells, cursorCells, cellsOf, machineFrom, machineOf}
 use Rattle.cells.specs.Checks.{limits, withinLimits, cellsAnswer}
-use Rattle.cells.specs.CheckLaws.{cells-kept}
+use Rattle.cells.specs.CheckLaws.{cells-kept, machine-of-34}
 use Rattle.cell_storing.specs.StoreLaws.{cells-length}
 use Rattle.cell_laws.specs.CellLaws.{within-at}
 use Rattle.cell_laws.specs.BackLaws.{pointer-at, cursor-at}
 
 -- the machine of cells that pass the checks passes check 1
 pub kept-in-range : (cells : List ℕ) → isDone (cellsAnswer cells) ≡ true → inRange (machineOf cells) ≡ true
-unfolding limits machineOf
+unfolding limits machineFrom
 kept-in-range cells h =
-    let most = within-at cells 34 (cells-kept cells h .within) in
-    in-range (machineOf cells)
+    let k = cells-kept cells h in
+    let most = within-at cells 34 (k .within) in
+    rw (machine-of-34 cells (k .count))
+    (in-range (machineFrom cells)
     (record {
       arp = omega (arith, most 13 (omega arith));
       arb = omega (arith, most 14 (omega arith));
@@ -41,7 +43,7 @@ kept-in-range cells h =
       rptc = omega (arith, most 23 (omega arith));
       input-cursor = omega (arith, most 32 (omega arith));
       output-cursor = omega (arith, most 33 (omega arith));
-    })
+    }))
 
 -- ---- each number of a list at most that of another in its place
 

@@ -3,7 +3,7 @@ use mathlib.Core.Path.{_≡_}
 use mathlib.Core.List.{List}
 use Prim.Native.Nat.{ℕ}
 use lib.ListN.{getD}
-use Rattle.cells.specs.Cells.{wordAt, smallAt, eightAt, machineOf}
+use Rattle.cells.specs.Cells.{wordAt, smallAt, eightAt, machineFrom}
 
 pub machine-read : (cells : List ℕ) {stack ar : List ℕ} {acc p t pc pfc arp arb dp pm ov ovm sxm c cnf mid rptc reads sends : ℕ}
     → stack ≡ eightAt cells 24
@@ -22,7 +22,7 @@ pub machine-read : (cells : List ℕ) {stack ar : List ℕ} {acc p t pc pfc arp 
     → sxm ≡ smallAt cells 19
     → c ≡ smallAt cells 20
     → cnf ≡ smallAt cells 21
-    → mid ≡ smallAt cells 22
+    → mid ≡ wordAt cells 22
     → rptc ≡ wordAt cells 23
     → reads ≡ wordAt cells 32
     → sends ≡ wordAt cells 33
@@ -48,7 +48,7 @@ pub machine-read : (cells : List ℕ) {stack ar : List ℕ} {acc p t pc pfc arp 
       «input_cursor» = reads;
       «output_cursor» = sends;
     }
-    ≡ machineOf cells
-unfolding machineOf
+    ≡ machineFrom cells
+unfolding machineFrom
 machine-read cells e0 e1 e2 e3 e4 e5 e6 e7 e8 e9 e10 e11 e12 e13 e14 e15 e16 e17 e18 e19 =
     rw (e0, e1, e2, e3, e4, e5, e6, e7, e8, e9, e10, e11, e12, e13, e14, e15, e16, e17, e18, e19)

@@ -2,9 +2,11 @@
 ghost use mathlib.Core.Path.{_≡_};
 ghost use Prim.Native.Nat.{_%_, _≤_};
 ghost use lib.ListN.{getD};
-ghost use Rattle.cells.specs.Cells.{machineOf, eightAt};
+ghost use Rattle.cells.specs.Cells.{machineFrom, machineOf, eightAt};
 use machine::Machine;
 use stack::Stack;
+
+const CELLS: usize = 34;
 
 // A cell of 32 bits; 0 where the slice has no such cell.
 fn number_at(cells: &[u32], i: usize) -> u32
@@ -44,9 +46,8 @@ fn eight_at(cells: &[u32], from: usize) -> [u16; 8]
     ]
 }
 
-// The machine that the cells are of. Cells that pass the checks lose nothing by it.
-pub fn machine_of(cells: &[u32]) -> Machine
-    ensures { λ r. ⌜ r ≡ machineOf (now (cells .entry)) ⌝ }
+fn machine_from(cells: &[u32]) -> Machine
+    ensures { λ r. ⌜ r ≡ machineFrom (now (cells .entry)) ⌝ }
 {
     Machine {
         stack: Stack {
@@ -67,9 +68,20 @@ pub fn machine_of(cells: &[u32]) -> Machine
         sxm: small_at(cells, 19),
         c: small_at(cells, 20),
         cnf: small_at(cells, 21),
-        mid: small_at(cells, 22),
+        mid: word_at(cells, 22),
         rptc: word_at(cells, 23),
         input_cursor: word_at(cells, 32),
         output_cursor: word_at(cells, 33),
     }
+}
+
+// The machine that the cells are of. Cells that pass the checks lose nothing by it. Where the length is asked once, the compiler drops the
+// test of every cell's place.
+pub fn machine_of(cells: &[u32]) -> Machine
+    ensures { λ r. ⌜ r ≡ machineOf (now (cells .entry)) ⌝ }
+{
+    if cells.len() != CELLS {
+        return Machine::reset();
+    }
+    machine_from(cells)
 }

@@ -57,7 +57,7 @@ fn pointer_cells(m: Machine) -> [u32; 11]
         from_small(m.sxm),
         from_small(m.c),
         from_small(m.cnf),
-        from_small(m.mid),
+        from_word(m.mid),
         from_word(m.rptc),
     ]
 }

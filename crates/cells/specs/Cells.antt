@@ -1,8 +1,11 @@
 -- The machine's cells as 34 numbers, in the order of document 01, "The cells of the machine".
+use mathlib.Core.Bool.{cond}
 use mathlib.Core.List.{List, [], _∷_, _++_}
 use Prim.Native.Nat.{ℕ, _+_, _%_}
-use lib.ListN.{getD}
+use lib.Dec.{eqb}
+use lib.ListN.{length, getD}
 use Rattle.machine.specs.declared.Machine.{Machine}
+use Rattle.machine.specs.Reset.{resetMachine}
 
 -- "ACC and P (32 bits), T, PC, PFC"
 unfoldable pub firstCells : Machine → List ℕ
@@ -53,8 +56,8 @@ eightAt cells i =
     ∷ []
 
 -- the machine of 34 numbers
-unfoldable pub machineOf : List ℕ → Machine
-machineOf cells =
+unfoldable pub machineFrom : List ℕ → Machine
+machineFrom cells =
     record {
       stack = record { words = eightAt cells 24 };
       acc = getD cells 0 0;
@@ -72,8 +75,12 @@ machineOf cells =
       sxm = smallAt cells 19;
       c = smallAt cells 20;
       cnf = smallAt cells 21;
-      mid = smallAt cells 22;
+      mid = wordAt cells 22;
       rptc = wordAt cells 23;
       «input_cursor» = wordAt cells 32;
       «output_cursor» = wordAt cells 33;
     }
+
+-- the machine of a slice of cells; one of another length is refused before any machine is asked for, and reset stands in
+unfoldable pub machineOf : List ℕ → Machine
+machineOf cells = cond (eqb (length cells) 34) (machineFrom cells) resetMachine

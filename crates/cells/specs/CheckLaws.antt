@@ -9,7 +9,7 @@ use borrow.Author.Tests.{eqb-true, eq-eqb}
 use Rattle.machine.specs.declared.Machine.{Machine}
 use Rattle.answers.specs.declared.Answer.the-variants.{Done, CellOutOfRange, SlicesUnfit}
 use Rattle.answers.specs.Numbers.{isDone}
-use Rattle.cells.specs.Cells.{cellsOf}
+use Rattle.cells.specs.Cells.{cellsOf, machineFrom, machineOf}
 use Rattle.cells.specs.Checks.{withinLimits, cellsAnswer, cellsAfter}
 
 -- cells that pass both checks
@@ -29,6 +29,11 @@ cells-kept cells h = by (eqb (length cells) 34) refl (withinLimits 34 cells) ref
 pub kept-done : (cells : List ℕ) → CellsKept cells → cellsAnswer cells ≡ Done
 unfolding cellsAnswer
 kept-done cells k = simp (eq-eqb _ _ (k .count), k .within)
+
+-- the machine of as many cells as there are
+pub machine-of-34 : (cells : List ℕ) → length cells ≡ 34 → machineOf cells ≡ machineFrom cells
+unfolding machineOf
+machine-of-34 cells h = simp (eq-eqb _ _ h)
 
 -- a machine's cells written over them
 pub kept-after : (cells : List ℕ) (m : Machine) → isDone (cellsAnswer cells) ≡ true → cellsAfter cells m ≡ cellsOf m

@@ -3,45 +3,50 @@ ghost use mathlib.Core.Path.{_≡_};
 ghost use lib.ListN.{length};
 ghost use Rattle.cells.specs.Checks.{withinLimits, lengthAnswer, cellsAnswer};
 use answers::Answer;
+use machine::Machine;
 
 const CELLS: usize = 34;
 
-// The largest number that each cell may hold.
+const LONG_MAX: u32 = 0xFFFFFFFF;
+
+const WORD_MAX: u32 = 0xFFFF;
+
+// The largest number that each cell may hold, in the cells' order: the machine's own limits, and what 16 and 32 bits hold.
 const LIMITS: [u32; 34] = [
-    4294967295,
-    4294967295,
-    65535,
-    65535,
-    65535,
-    65535,
-    65535,
-    65535,
-    65535,
-    65535,
-    65535,
-    65535,
-    65535,
-    7,
-    7,
-    511,
-    3,
-    1,
-    1,
-    1,
-    1,
-    1,
-    1,
-    255,
-    65535,
-    65535,
-    65535,
-    65535,
-    65535,
-    65535,
-    65535,
-    65535,
-    1024,
-    1024,
+    LONG_MAX,
+    LONG_MAX,
+    WORD_MAX,
+    WORD_MAX,
+    WORD_MAX,
+    WORD_MAX,
+    WORD_MAX,
+    WORD_MAX,
+    WORD_MAX,
+    WORD_MAX,
+    WORD_MAX,
+    WORD_MAX,
+    WORD_MAX,
+    Machine::ARP_MAX as u32,
+    Machine::ARB_MAX as u32,
+    Machine::DP_MAX as u32,
+    Machine::PM_MAX as u32,
+    Machine::FLAG_MAX as u32,
+    Machine::FLAG_MAX as u32,
+    Machine::FLAG_MAX as u32,
+    Machine::FLAG_MAX as u32,
+    Machine::FLAG_MAX as u32,
+    Machine::MID_MAX as u32,
+    Machine::RPTC_MAX as u32,
+    WORD_MAX,
+    WORD_MAX,
+    WORD_MAX,
+    WORD_MAX,
+    WORD_MAX,
+    WORD_MAX,
+    WORD_MAX,
+    WORD_MAX,
+    Machine::CURSOR_MAX as u32,
+    Machine::CURSOR_MAX as u32,
 ];
 
 // Each of 34 cells is at most its limit.
@@ -49,10 +54,12 @@ fn within_limits(cells: &[u32]) -> bool
     requires { ⌜ length (now cells) ≡ 34 ⌝ }
     ensures { λ r. ⌜ r ≡ withinLimits 34 (now (cells .entry)) ⌝ }
 {
+    // once, and not in every turn of the loop, which would build the table anew
+    let limits = LIMITS;
     let mut kept = true;
     let mut i: usize = 0;
     while i < CELLS {
-        kept = kept & (cells[i] <= LIMITS[i]);
+        kept = kept & (cells[i] <= limits[i]);
         i += 1;
     }
     kept

@@ -25,7 +25,8 @@ pub struct Machine {
     pub sxm: u8,
     pub c: u8,
     pub cnf: u8,
-    pub mid: u8,
+    // 16 bits, so that the cells fill the struct: a byte between them would be written by nobody and read along with RPTC.
+    pub mid: u16,
     pub rptc: u16,
     pub input_cursor: u16,
     pub output_cursor: u16,
@@ -38,7 +39,7 @@ pub struct AfterPop {
 }
 
 impl Machine {
-    // The largest number that each cell may hold; FLAG_MAX is that of OV, OVM, SXM, C, CNF and MID.
+    // The largest number that each cell may hold; FLAG_MAX is that of OV, OVM, SXM, C and CNF.
     pub const ARP_MAX: u8 = 7;
 
     pub const ARB_MAX: u8 = 7;
@@ -48,6 +49,8 @@ impl Machine {
     pub const PM_MAX: u8 = 3;
 
     pub const FLAG_MAX: u8 = 1;
+
+    pub const MID_MAX: u16 = 1;
 
     pub const RPTC_MAX: u16 = 255;
 
@@ -94,7 +97,7 @@ impl Machine {
             & (self.sxm <= Machine::FLAG_MAX)
             & (self.c <= Machine::FLAG_MAX)
             & (self.cnf <= Machine::FLAG_MAX)
-            & (self.mid <= Machine::FLAG_MAX)
+            & (self.mid <= Machine::MID_MAX)
             & (self.rptc <= Machine::RPTC_MAX)
             & (self.input_cursor <= Machine::CURSOR_MAX)
             & (self.output_cursor <= Machine::CURSOR_MAX)

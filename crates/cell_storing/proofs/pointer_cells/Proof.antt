@@ -30,15 +30,15 @@ from-small-requires-7 c κs = search needs
 from-small-requires-8 : tie.Need-from-small-requires-8
 from-small-requires-8 c κs = search needs
 
-from-small-requires-9 : tie.Need-from-small-requires-9
-from-small-requires-9 c κs = search needs
-
 from-word-requires-2 : tie.Need-from-word-requires-2
 from-word-requires-2 c κs = search needs
 
+from-word-requires-3 : tie.Need-from-word-requires-3
+from-word-requires-3 c κs = search needs
+
 returns : tie.Need-returns
 unfolding pointerCells
-returns c = rw (c .from-word2 .ensures, c .before .from-small9 .ensures, c .before .before .from-small8 .ensures, c .before .before .before .from-small7 .ensures, c .before .before .before .before .from-small6 .ensures, c .before .before .before .before .before .from-small5 .ensures, c .before .before .before .before .before .before .from-small4 .ensures, c .before .before .before .before .before .before .before .from-small3 .ensures, c .before .before .before .before .before .before .before .before .from-word .ensures, c .before .before .before .before .before .before .before .before .before .from-small2 .ensures, c .before .before .before .before .before .before .before .before .before .before .from-small .ensures)
+returns c = rw (c .from-word3 .ensures, c .before .from-word2 .ensures, c .before .before .from-small8 .ensures, c .before .before .before .from-small7 .ensures, c .before .before .before .before .from-small6 .ensures, c .before .before .before .before .before .from-small5 .ensures, c .before .before .before .before .before .before .from-small4 .ensures, c .before .before .before .before .before .before .before .from-small3 .ensures, c .before .before .before .before .before .before .before .before .from-word .ensures, c .before .before .before .before .before .before .before .before .before .from-small2 .ensures, c .before .before .before .before .before .before .before .before .before .before .from-small .ensures)
 
 pub pointer-cells-spec : {M : Type 1} → statement M
 pointer-cells-spec =
@@ -53,6 +53,6 @@ pointer-cells-spec =
     from-small-requires-6
     from-small-requires-7
     from-small-requires-8
-    from-small-requires-9
     from-word-requires-2
+    from-word-requires-3
     returns)

@@ -8,10 +8,10 @@ use Rattle.cells.proofs.within_limits.Statement.{statement}
 use Rattle.cells.proofs.within_limits.Tie as tie
 
 abbrev Inv-loop : tie.InvT-loop
-Inv-loop cells kept₀ i₀ kept i = Kept cells kept i
+Inv-loop cells limits kept₀ i₀ kept i = Kept cells kept i
 
 abbrev μ-loop : tie.MeasureT-loop
-μ-loop cells kept₀ i₀ kept i = 34 - i
+μ-loop cells limits kept₀ i₀ kept i = 34 - i
 
 loop-holds : tie.Need-loop-holds Inv-loop μ-loop
 unfolding withinLimits
