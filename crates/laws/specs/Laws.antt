@@ -5,16 +5,22 @@ use mathlib.Core.List.{List, [], _∷_, _++_}
 use Prim.Native.Nat.{ℕ, zero, suc, _+_, _≤_, _<_}
 use lib.ListN.{length}
 use Rattle.alu.specs.Registers.{wrappedSum}
+use Rattle.machine.specs.declared.Machine.{Machine}
 use Rattle.machine.specs.Cells.{withPc, withMid, withRptc}
+use Rattle.machine.specs.Range.{inRange}
 use Rattle.instructions.specs.declared.Instruction.{Instruction}
-use Rattle.instructions.specs.declared.Decoded.the-variants.{Base}
+use Rattle.instructions.specs.declared.Decoded.the-variants.{Base, Nothing}
+use Rattle.pages.specs.declared.Traits.{Traits}
 use Rattle.pages.specs.Traits.{traitsOf}
 use Rattle.pages.specs.declared.Effect.{Effect}
 use Rattle.answers.specs.declared.Answer.{Answer}
 use Rattle.answers.specs.declared.Answer.the-variants.{Done}
 use Rattle.answers.specs.Numbers.{numberOf, isDone}
+use Rattle.board.specs.Regions.{programPresent}
+use Rattle.board.specs.Slices.{slicesFit}
 use Rattle.steps.specs.declared.Write.{Write}
-use Rattle.steps.specs.Rows.{Row, row}
+use Rattle.steps.specs.Rows.{Row, row, firstGiven}
+use Rattle.steps.specs.Refusals.{wrongPort, addressAbove, passRefusal}
 use Rattle.steps.specs.Stores.{dataAfter, outputAfter}
 use Rattle.steps.specs.Pass.{effectOf, passedWrite}
 use Rattle.steps.specs.World.{World, RunOutcome}
@@ -60,6 +66,19 @@ pub record RowGiven (rom input : List ℕ) (w : World) : Type 0 where
   pub only-by : (a : Answer) → isDone a ≡ false → stepOf rom input w .answer ≡ a → GivenBy a (rowsOf rom input w)
   pub done-by : NoneHolds (rowsOf rom input w) → stepOf rom input w .answer ≡ Done
   pub done-only : stepOf rom input w .answer ≡ Done → NoneHolds (rowsOf rom input w)
+
+-- ---- the order, where two conditions hold at once
+
+-- "Order in a step: 1, 2, 5 for the first word, 3, ..": a word in no encoding, at an address that is absent
+abbrev pub PresenceBeforeEncoding : Type 0
+PresenceBeforeEncoding = (rom «data» input : List ℕ) (outputLength : ℕ) (m : Machine) → inRange m ≡ true → slicesFit m rom «data» input outputLength ≡ true
+    → programPresent (m .cnf) (m .pc) ≡ false
+    → numberOf (firstGiven (tableFor Nothing rom «data» input outputLength m)) ≡ 5
+
+-- ".. 5 for the second word, 9, 8, ..": a wrong port, with an address above 65,535
+abbrev pub PortBeforeAddress : Type 0
+PortBeforeAddress = (t : Traits) (address second outputLength : ℕ) (m : Machine) → wrongPort (t .port) ≡ true → addressAbove t address ≡ true
+    → numberOf (passRefusal t address second outputLength m) ≡ 9
 
 -- ---- runs
 

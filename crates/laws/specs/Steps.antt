@@ -16,12 +16,13 @@ use Rattle.instructions.specs.declared.Decoded.the-variants.{Base, Published, N
 use Rattle.pages.specs.Traits.{traitsOf}
 use Rattle.steps.specs.declared.Plan.{Plan}
 use Rattle.steps.specs.Rows.{Row, row, firstGiven}
+use Rattle.steps.specs.Refusals.{passRefusal}
 use Rattle.steps.specs.Stores.{dataAfter, outputAfter}
 use Rattle.steps.specs.Pass.{performed, refused}
 use Rattle.steps.specs.World.{World}
 use Rattle.steps.specs.Table.{decodedAt, secondWord, tableFor, refusalOf, checksOf}
 use Rattle.steps.specs.Step.{pagePlan, planOf, stored, stepOf}
-use Rattle.laws.specs.Laws.{RefusedUnchanged, AnswersOfAStep, rowsOf, NoneHolds, GivenBy, RowGiven}
+use Rattle.laws.specs.Laws.{RefusedUnchanged, AnswersOfAStep, rowsOf, NoneHolds, GivenBy, RowGiven, PresenceBeforeEncoding, PortBeforeAddress}
 
 -- facts one after another
 infixr 4 _and_
@@ -156,3 +157,13 @@ row-given rom input w = record {
   done-by = λ n. step-answer rom input w ∙ none-done (rowsOf rom input w) n;
   done-only = λ e. none-from (rowsOf rom input w) (table-refuses (decodedAt rom (w .«data») (w .m)) rom (w .«data») input (length (w .output)) (w .m)) (sym (step-answer rom input w) ∙ e);
 }
+
+-- ---- the order, where two conditions hold at once
+
+pub presence-before-encoding : PresenceBeforeEncoding
+unfolding firstGiven tableFor
+presence-before-encoding rom «data» input outputLength m r s p = rw (r, s, p)
+
+pub port-before-address : PortBeforeAddress
+unfolding firstGiven passRefusal
+port-before-address t address second outputLength m w a = rw w
