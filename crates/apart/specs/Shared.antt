@@ -1,7 +1,8 @@
 -- The words that two pages have: "ZAC is LACK 0, NOP and LARP are MAR" (document 01). These are all, and what each is.
 use mathlib.Core.Path.{_≡_}
-use Prim.Native.Nat.{ℕ, _+_, _%_, _<_}
-use lib.Dec.{T}
+use mathlib.Core.Bool.{Bool, _&&_}
+use Prim.Native.Nat.{ℕ, _+_, _<_}
+use lib.Dec.{leb, eqb}
 use Rattle.instructions.specs.Encoding.{accumulator, auxiliary}
 use Rattle.instructions.specs.Pages.{pages}
 use Rattle.instructions.specs.Decode.{decodeOf}
@@ -12,14 +13,20 @@ use Rattle.dma.specs.declared.Modification.the-variants.{None}
 use Rattle.dma.specs.declared.NextArp.the-variants.{To}
 use Rattle.apart.specs.Having.{hasAt}
 
--- Places 130, 131 and 132 of the list are ZAC, NOP and LARP.
-abbrev pub ZacIsLack : Type 0
-ZacIsLack = (w : ℕ) → w < 65536 → T (hasAt pages 130 w) → (w ≡ 0xCA00) × (decodeOf w ≡ accumulator (Lack 0))
+-- The page at a place of the list has the words that pass the test, and no others.
+abbrev pub HasExactly : ℕ → (ℕ → Bool) → Type 0
+HasExactly place test = (w : ℕ) → w < 65536 → hasAt pages place w ≡ test w
 
-abbrev pub NopIsMar : Type 0
-NopIsMar = (w : ℕ) → w < 65536 → T (hasAt pages 131 w) → (w ≡ 0x5500) × (decodeOf w ≡ auxiliary (Mar (Direct 0)))
+-- Places 130, 131 and 132 of the list are ZAC, NOP and LARP.
+pub record ZacIsLack : Type 0 where
+  pub words : HasExactly 130 (λ w. eqb w 0xCA00)
+  pub meaning : decodeOf 0xCA00 ≡ accumulator (Lack 0)
+
+pub record NopIsMar : Type 0 where
+  pub words : HasExactly 131 (λ w. eqb w 0x5500)
+  pub meaning : decodeOf 0x5500 ≡ auxiliary (Mar (Direct 0))
 
 -- LARP k: MAR with no modification and next ARP k
-abbrev pub LarpIsMar : Type 0
-LarpIsMar = (w : ℕ) → w < 65536 → T (hasAt pages 132 w)
-    → (w ≡ 0x5588 + w % 8) × (decodeOf w ≡ auxiliary (Mar (Indirect (record { modification = None; next = To (w % 8) }))))
+pub record LarpIsMar : Type 0 where
+  pub words : HasExactly 132 (λ w. leb 0x5588 w && leb w 0x558F)
+  pub meaning : (k : ℕ) → k < 8 → decodeOf (0x5588 + k) ≡ auxiliary (Mar (Indirect (record { modification = None; next = To k })))
