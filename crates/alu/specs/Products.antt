@@ -16,20 +16,23 @@ productWord x y = low 32 (product x y)
 unfoldable pub longConstant : ℕ → ℕ
 longConstant k = low 16 (signed 13 (k % 2 ^ 13))
 
--- The product shifted left by k places and right by 6, with its sign: 32 bits, low bits lost, and those pushed out at the top too (ruling R16)
-unfoldable pub scaled : ℕ → ℕ → ℕ
-scaled k p = low 32 (shrZ (pos (2 ^ k) *ℤ signed 32 p) (2 ^ 6))
+-- A whole number shifted to the left, and to the right: with its sign, its low bits lost.
+unfoldable pub leftBy : ℕ → ℤ → ℤ
+leftBy places z = pos (2 ^ places) *ℤ z
 
--- k for each PM. Document 01: "PM 0 none, 1 left 1, 2 left 4, 3 right 6"
-unfoldable pub amountOf : ℕ → ℕ
-amountOf zero = 6
-amountOf (suc zero) = 7
-amountOf (suc (suc zero)) = 10
-amountOf (suc (suc (suc n))) = 0
+unfoldable pub rightBy : ℕ → ℤ → ℤ
+rightBy places z = shrZ z (2 ^ places)
 
--- the product shifter's output
+-- "Product shift: PM 0 none, 1 left 1, 2 left 4, 3 right 6 with sign, low bits lost."
+unfoldable pub productShift : ℕ → ℤ → ℤ
+productShift zero z = z
+productShift (suc zero) z = leftBy 1 z
+productShift (suc (suc zero)) z = leftBy 4 z
+productShift (suc (suc (suc n))) z = rightBy 6 z
+
+-- the product shifter's output: 32 bits, those pushed out at the top are lost (ruling R16)
 unfoldable pub shiftedProduct : ℕ → ℕ → ℕ
-shiftedProduct p pm = scaled (amountOf pm) p
+shiftedProduct p pm = low 32 (productShift pm (signed 32 p))
 
 -- SPH: "PR shifter output (31-16)"; SPL: "PR shifter output (15-0)"
 unfoldable pub productHigh : ℕ → ℕ → ℕ

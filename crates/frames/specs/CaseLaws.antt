@@ -7,7 +7,7 @@ use lib.ListN.{length, getD, replicate}
 use Rattle.alu.specs.Whole.{dn}
 use Rattle.alu.specs.Word.{signed, low}
 use Rattle.alu.specs.Sums.{holds, held, settled, carry, added}
-use Rattle.alu.specs.Products.{product, productWord, scaled, amountOf, shiftedProduct}
+use Rattle.alu.specs.Products.{product, productWord, leftBy, rightBy, productShift, shiftedProduct}
 use Rattle.frames.specs.Frames.{Pair, fromZero, productAdded, accumulated, passed, stacked, exactSum, Every, Words, Least, BothLeast, AllLeast}
 use Rattle.frames.specs.FrameCases.{least, allLeast, firstChanged, lastChanged, allLost, Cases}
 
@@ -33,7 +33,7 @@ unfolding Words least allLeast
 least-words n = every-same _ least (omega arith, omega arith) n
 
 pub cases : Cases
-unfolding least allLeast firstChanged lastChanged allLost fromZero productAdded accumulated passed stacked exactSum AllLeast Least BothLeast signed low holds held settled carry added product productWord scaled amountOf shiftedProduct
+unfolding least allLeast firstChanged lastChanged allLost fromZero productAdded accumulated passed stacked exactSum AllLeast Least BothLeast signed low holds held settled carry added product productWord leftBy rightBy productShift shiftedProduct
 cases = record {
   at-1 = λ ovm. refl;
   at-127 = λ ovm. refl;
@@ -49,7 +49,7 @@ cases = record {
 }
 
 overflows : (ovm : ℕ) → stacked 3 ovm (allLeast 128) .ov ≡ 1
-unfolding least allLeast fromZero productAdded accumulated passed stacked signed low holds held settled carry added product productWord scaled amountOf shiftedProduct
+unfolding least allLeast fromZero productAdded accumulated passed stacked signed low holds held settled carry added product productWord leftBy rightBy productShift shiftedProduct
 overflows ovm = refl
 
 -- SPM's page: "up to 128 multiply-accumulate processes without the possibility of overflow occurring". Not so, with OVM either way

@@ -5,10 +5,10 @@ use native.Mathlib.Omega.{arith, by-contra, both-ways}
 use native.Mathlib.Nat.{mul-le-mul}
 use lib.IntN.{ℤ, pos, negsuc, _*ℤ_}
 use lib.Signed.{shrZ}
-use Rattle.alu.specs.Whole.{up, dn, neg-is, one-times}
+use Rattle.alu.specs.Whole.{up, dn, neg-is}
 use Rattle.alu.specs.Word.{signed}
 use Rattle.alu.specs.WordLaws.{signed-low, low-lt, Within, within-16, within-32}
-use Rattle.alu.specs.Products.{product, productWord, scaled, amountOf, shiftedProduct}
+use Rattle.alu.specs.Products.{product, productWord, rightBy, productShift, shiftedProduct}
 
 -- two factors at most 2 ^ 15
 square : {a b : ℕ} → a ≤ 2 ^ 15 → b ≤ 2 ^ 15 → a * b ≤ 2 ^ 30
@@ -58,7 +58,7 @@ shr-in (negsuc n) h = omega arith
 
 -- product shift 3: over 64, rounded down
 pub shifted-is : (p : ℕ) → p < 2 ^ 32 → signed 32 (shiftedProduct p 3) ≡ shrZ (signed 32 p) 64
-unfolding shiftedProduct amountOf scaled
+unfolding shiftedProduct productShift rightBy
 shifted-is p h =
     let b = shr-in (signed 32 p) (within-32 p h) in
-    rw (one-times (signed 32 p)) (signed-low (shrZ (signed 32 p) 64) (b .0) (b .1))
+    signed-low (shrZ (signed 32 p) 64) (b .0) (b .1)

@@ -1,1 +1,4 @@
+-- definitions
+pub mod Scaling
+-- proofs
 pub mod ProductLaws

@@ -1,14 +1,16 @@
 -- The product and the product shift, in parts that omega reads.
-use mathlib.Core.Path.{_≡_, refl, sym, ap, ap₂}
+use mathlib.Core.Path.{_≡_, refl, sym, _∙_, ap, ap₂}
 use Prim.Native.Nat.{ℕ, zero, suc, _+_, _*_, _-_, _/_, _%_, _^_, _≤_, _<_}
 use native.Mathlib.Omega.{arith}
 use native.Mathlib.Nat.{mul-le-mul}
 use lib.IntN.{ℤ, pos, negsuc, _*ℤ_}
+use lib.Pow.{pow-add}
 use lib.Signed.{shrZ}
-use Rattle.alu.specs.Whole.{up, dn, part, neg-is, times-is}
+use Rattle.alu.specs.Whole.{up, dn, part, neg-is, times-is, one-times}
 use Rattle.alu.specs.Word.{signed, low}
 use Rattle.alu.specs.WordLaws.{signed-is, low-is, extended-is}
-use Rattle.alu.specs.Products.{product, productWord, longConstant, scaled, amountOf}
+use Rattle.alu.specs.Products.{product, productWord, longConstant, leftBy, rightBy, productShift, shiftedProduct}
+use Rattle.products.specs.Scaling.{scaled, amountOf}
 
 -- a product, by its factors' parts: one of the two products of parts on each side is zero
 pub times-parts : (a b : ℤ) → (up (a *ℤ b) ≡ up a * up b + dn a * dn b) × (dn (a *ℤ b) ≡ up a * dn b + dn a * up b)
@@ -49,11 +51,42 @@ wide-law (pos n) x b h = omega arith
 wide-law (negsuc n) x b h = omega arith
 
 pub scale-law : (p k : ℕ) → (p + p / 2 ^ 31 * 0xFFFF_FFFF_0000_0000) * 2 ^ k % 2 ^ 64 / 2 ^ 6 % 2 ^ 32 ≡ scaled k p
-unfolding scaled
+unfolding scaled leftBy rightBy
 scale-law p k =
     let e = ap (λ (t : ℕ). 2 ^ k * t) (signed-is 32 p) in
     let t = times-is (2 ^ k) (signed 32 p) in
     wide-law (pos (2 ^ k) *ℤ signed 32 p) _ (p / 2 ^ 31 * 2 ^ k) (omega arith)
+
+-- 6 places to the left of y, and cut by 6 to the right, is y
+cut-back : (z y : ℤ) → up z + 64 * dn y ≡ 64 * up y + dn z → shrZ z 64 ≡ y
+cut-back (pos a) (pos b) h = ap pos (omega arith)
+cut-back (pos a) (negsuc b) h = absurd (omega arith)
+cut-back (negsuc a) (pos b) h = absurd (omega arith)
+cut-back (negsuc a) (negsuc b) h = ap negsuc (omega arith)
+
+-- a shift to the left, by any number of places
+left-scaled : (k p : ℕ) → scaled (6 + k) p ≡ low 32 (leftBy k (signed 32 p))
+unfolding scaled leftBy rightBy
+left-scaled k p =
+    let z = signed 32 p in
+    let a = times-is (2 ^ (6 + k)) z in
+    let b = times-is (2 ^ k) z in
+    let e : 2 ^ (6 + k) ≡ 64 * 2 ^ k = pow-add 2 6 k in
+    let u = ap (λ (n : ℕ). n * up z) e in
+    let d = ap (λ (n : ℕ). n * dn z) e in
+    ap (low 32) (cut-back (pos (2 ^ (6 + k)) *ℤ z) (pos (2 ^ k) *ℤ z) (omega arith))
+
+left-none : (z : ℤ) → leftBy 0 z ≡ z
+unfolding leftBy
+left-none z = one-times z
+
+-- what is worked is the product shift of each PM
+pub scaled-is : (p pm : ℕ) → scaled (amountOf pm) p ≡ shiftedProduct p pm
+unfolding amountOf shiftedProduct productShift scaled
+scaled-is p zero = left-scaled 0 p ∙ ap (low 32) (left-none (signed 32 p))
+scaled-is p (suc zero) = left-scaled 1 p
+scaled-is p (suc (suc zero)) = left-scaled 4 p
+scaled-is p (suc (suc (suc n))) = ap (λ (z : ℤ). low 32 (rightBy 6 z)) (left-none (signed 32 p))
 
 pub amount-le : (pm : ℕ) → amountOf pm ≤ 10
 unfolding amountOf

@@ -2,7 +2,8 @@
 use words::bits;
 ghost use mathlib.Core.Path.{_≡_};
 ghost use Prim.Native.Nat.{_≤_};
-ghost use Rattle.alu.specs.Products.{productWord, longConstant, scaled, amountOf, shiftedProduct, productHigh, productLow};
+ghost use Rattle.alu.specs.Products.{productWord, longConstant, shiftedProduct, productHigh, productLow};
+ghost use Rattle.products.specs.Scaling.{scaled, amountOf};
 
 // The signed product, as P takes it. Both words are extended by their signs: the low 32 bits are those of the exact product.
 pub fn product(x: u16, y: u16) -> u32
@@ -21,7 +22,7 @@ pub fn long_constant(k: u16) -> u16
     bits + bits / 4096 * 57344
 }
 
-// The product shifted left by `k` places and right by 6, with its sign.
+// The product shifted left by `k` places and right by 6, with its sign: one way of working for every PM.
 fn scale(p: u32, k: u32) -> u32
     requires { ⌜ k ≤ 32 ⌝ }
     ensures { λ r. ⌜ r ≡ scaled k p ⌝ }
@@ -30,7 +31,7 @@ fn scale(p: u32, k: u32) -> u32
     (((wide << k) >> 6) % 4294967296) as u32
 }
 
-// `k` for each PM.
+// `k` for each PM: none, left 1, left 4, right 6.
 fn amount(pm: u8) -> u32
     ensures { λ r. ⌜ r ≡ amountOf pm ⌝ }
 {

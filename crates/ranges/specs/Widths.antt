@@ -17,7 +17,7 @@ use Rattle.alu.specs.Sums.{holds, held, settled, carry, noBorrow, added, subtra
 use Rattle.alu.specs.PageSums.{inHighHalf, addedHigh, subtractedHigh, aluOutput, subtractedConditionally, negated, absolute}
 use Rattle.alu.specs.Shifts.{operand, unsignedOperand, storedLow, storedHigh, leftByOne, rightByOne}
 use Rattle.alu.specs.Logic.{bitByBit, anded, ored, xored, complemented}
-use Rattle.alu.specs.Products.{productWord, scaled, shiftedProduct, productHigh, productLow}
+use Rattle.alu.specs.Products.{productWord, shiftedProduct, productHigh, productLow}
 use Rattle.alu.specs.Registers.{wrappedSum, wrappedDifference, reversedSum, reversedDifference}
 use Rattle.alu.specs.RegisterLaws.{reversed-lt}
 
@@ -154,7 +154,7 @@ unfolding productWord
 product-lt x y = low-lt _
 
 pub shifted-lt : (p pm : ℕ) → shiftedProduct p pm < 2 ^ 32
-unfolding shiftedProduct scaled
+unfolding shiftedProduct
 shifted-lt p pm = low-lt _
 
 pub product-high-lt : (p pm : ℕ) → productHigh p pm < 2 ^ 16

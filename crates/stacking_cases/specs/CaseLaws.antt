@@ -4,7 +4,7 @@ use mathlib.Core.List.{List, [], _∷_}
 use Prim.Native.Nat.{ℕ}
 use Rattle.alu.specs.Word.{signed, low}
 use Rattle.alu.specs.Sums.{holds, held, settled, carry, noBorrow, added, subtracted}
-use Rattle.alu.specs.Products.{product, productWord, scaled, amountOf, shiftedProduct, productHigh, productLow}
+use Rattle.alu.specs.Products.{product, productWord, leftBy, rightBy, productShift, shiftedProduct, productHigh, productLow}
 use Rattle.alu.specs.Registers.{wrappedSum, wrappedDifference, reversed, reversedSum}
 use Rattle.machine.specs.Reset.{resetMachine}
 use Rattle.machine.specs.Range.{inRange}
@@ -45,5 +45,5 @@ pub record Computed : Type 0 where
   pub one-changed-128 : shown (runWith 127 0x8001 1) ≡ 0 ∷ 130 ∷ 0x7FFF_FE00 ∷ 0 ∷ []
 
 pub computed : Computed
-unfolding signed low holds held settled carry noBorrow added subtracted product productWord scaled amountOf shiftedProduct productHigh productLow wrappedSum wrappedDifference reversed reversedSum resetMachine inRange lowFits modificationOf nextOf indirectOf addressOf decodeOf traitsOf multiplierTraits moved pointed modified addressed addressing.addressOf APAC tableAddress multiplierRule ruleOf followed destination dataRegion dataPresent inRom inProgramB0 programPresent memoriesFit portFits portSpent slicesFit windowOf programWord firstGiven accesses wrongPort sends addressAbove dataAbsent tableAbsent outputFull readWord wordsRead effectOf writeOf passedMachine passedWrite performed dataAfter outputAfter decodedAt secondAddress secondWord notRepeatable secondAbsent tableFor refusalOf pagePlan planOf stored stepOf modesTraits MAC RPTK modesRule checksOf runOf romWith worldWith runWith
+unfolding signed low holds held settled carry noBorrow added subtracted product productWord leftBy rightBy productShift shiftedProduct productHigh productLow wrappedSum wrappedDifference reversed reversedSum resetMachine inRange lowFits modificationOf nextOf indirectOf addressOf decodeOf traitsOf multiplierTraits moved pointed modified addressed addressing.addressOf APAC tableAddress multiplierRule ruleOf followed destination dataRegion dataPresent inRom inProgramB0 programPresent memoriesFit portFits portSpent slicesFit windowOf programWord firstGiven accesses wrongPort sends addressAbove dataAbsent tableAbsent outputFull readWord wordsRead effectOf writeOf passedMachine passedWrite performed dataAfter outputAfter decodedAt secondAddress secondWord notRepeatable secondAbsent tableFor refusalOf pagePlan planOf stored stepOf modesTraits MAC RPTK modesRule checksOf runOf romWith worldWith runWith
 computed = record { all-127 = refl; all-128-held = refl; all-128-turned-over = refl; all-128-before-the-last = refl; one-changed-128 = refl }

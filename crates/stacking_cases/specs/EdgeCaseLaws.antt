@@ -6,7 +6,7 @@ use native.Mathlib.Omega.{arith}
 use lib.ListN.{getD}
 use Rattle.alu.specs.Word.{signed, low}
 use Rattle.alu.specs.Sums.{holds, held, settled, carry, added}
-use Rattle.alu.specs.Products.{product, productWord, scaled, amountOf, shiftedProduct}
+use Rattle.alu.specs.Products.{product, productWord, leftBy, rightBy, productShift, shiftedProduct}
 use Rattle.alu.specs.Registers.{wrappedSum}
 use Rattle.machine.specs.Reset.{resetMachine}
 use Rattle.machine.specs.Range.{inRange}
@@ -47,7 +47,7 @@ use Rattle.stacking_cases.specs.EdgeCase.{edgeRom, edgeData, edgeMachine
 use Rattle.stacking_cases.specs.SizedLaws.{allSized, sized-by}
 
 pub edge-case : EdgeCase
-unfolding signed low holds held settled carry added product productWord scaled amountOf shiftedProduct wrappedSum resetMachine inRange lowFits modificationOf nextOf indirectOf addressOf decodeOf traitsOf multiplierTraits moved pointed modified addressed addressing.addressOf APAC tableAddress multiplierRule ruleOf followed destination dataRegion dataPresent onChip moveAllowed inRom inProgramB0 programPresent memoriesFit portFits portSpent slicesFit windowOf programWord firstGiven accesses wrongPort sends addressAbove dataAbsent tableAbsent outputFull readWord wordsRead effectOf writeOf passedMachine passedWrite performed dataAfter outputAfter decodedAt secondAddress secondWord notRepeatable secondAbsent tableFor refusalOf pagePlan planOf stored stepOf modesTraits MAC MACD RPT modesRule checksOf runOf pairFor pairAt pairsRead words exactSum edgeRom edgeData edgeMachine edgeWorld edgeRun
+unfolding signed low holds held settled carry added product productWord leftBy rightBy productShift shiftedProduct wrappedSum resetMachine inRange lowFits modificationOf nextOf indirectOf addressOf decodeOf traitsOf multiplierTraits moved pointed modified addressed addressing.addressOf APAC tableAddress multiplierRule ruleOf followed destination dataRegion dataPresent onChip moveAllowed inRom inProgramB0 programPresent memoriesFit portFits portSpent slicesFit windowOf programWord firstGiven accesses wrongPort sends addressAbove dataAbsent tableAbsent outputFull readWord wordsRead effectOf writeOf passedMachine passedWrite performed dataAfter outputAfter decodedAt secondAddress secondWord notRepeatable secondAbsent tableFor refusalOf pagePlan planOf stored stepOf modesTraits MAC MACD RPT modesRule checksOf runOf pairFor pairAt pairsRead words exactSum edgeRom edgeData edgeMachine edgeWorld edgeRun
 edge-case = record { comes-to = refl; leaves = refl; reads = refl; exact = refl }
 
 -- *+

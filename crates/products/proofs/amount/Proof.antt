@@ -1,5 +1,5 @@
 use mathlib.Core.Path.{sym, ap}
-use Rattle.alu.specs.Products.{amountOf}
+use Rattle.products.specs.Scaling.{amountOf}
 use Rattle.products.specs.ProductLaws.{amount-last}
 use Rattle.products.proofs.amount.Statement.{statement}
 use Rattle.products.proofs.amount.Tie as tie

@@ -1,7 +1,6 @@
 use mathlib.Core.Path.{_∙_}
 use native.Mathlib.Omega.{arith}
-use Rattle.alu.specs.Products.{shiftedProduct}
-use Rattle.products.specs.ProductLaws.{amount-le}
+use Rattle.products.specs.ProductLaws.{amount-le, scaled-is}
 use borrow.Author.Needs.{needs}
 use Rattle.products.proofs.shift_product.Statement.{statement}
 use Rattle.products.proofs.shift_product.Tie as tie
@@ -13,8 +12,7 @@ scale-requires : tie.Need-scale-requires
 scale-requires c κs = omega (arith, c .amount .ensures, amount-le (c .before .args .pm))
 
 returns : tie.Need-returns
-unfolding shiftedProduct
-returns c = c .scale .ensures ∙ rw (c .before .amount .ensures)
+returns c = c .scale .ensures ∙ rw (c .before .amount .ensures) (scaled-is (c .before .before .args .p) (c .before .before .args .pm))
 
 pub shift-product-spec : {M : Type 1} → statement M
 shift-product-spec = tie.close (tie.spec amount-requires scale-requires returns)
