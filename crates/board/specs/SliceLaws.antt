@@ -8,9 +8,10 @@ use native.Mathlib.Numerals.{unary-clauses}
 use lib.Dec.{leb, eqb}
 use lib.ListN.{length, take, drop, set, length-take, length-set}
 use lib.Seq.{slice, take-nil, set-out}
+use denote.Ref.{RefT, ptr, now}
 use borrow.Author.Tests.{le-leb, lt-leb, leb-true, leb-false, eqb-true}
 use borrow.Rule.Slice.PartMut.{mid-len, post-is, put-same, set-mid-at, same-len-mid, take-put, drop-put}
-use Rattle.board.specs.Slices.{memoriesFit, portFits, slicesFit, pagePart, pageStored}
+use Rattle.board.specs.Slices.{memoriesFit, portFits, slicesFit, partStart, pagePart, pageStored}
 use Rattle.board.specs.RegionLaws.{both}
 use Rattle.machine.specs.declared.Machine.{Machine}
 use Rattle.board.specs.SliceFacts.{MemoriesFit, PortFits, SlicesFit}
@@ -41,6 +42,14 @@ part-cut f t l = rw (take-min t l, ← length-take t l) (drop-min f (take t l))
 -- bounds cut down to the words that are there give the same part
 pub part-shown : (f t : ℕ) (l : List ℕ) (start end : ℕ) → end ≡ min t (length l) → start ≡ min f end → take (end - start) (drop start l) ≡ slice f t l
 part-shown f t l start end he hs = rw (part-counted start end l, hs, he) (part-cut f t l)
+
+-- and where it begins
+pub part-begins : (f t : ℕ) (words : RefT (List ℕ)) (start end : ℕ) → end ≡ min t (length (now words)) → start ≡ min f end
+    → (ptr words .0, start * 2 + ptr words .1) ≡ partStart f t words
+unfolding partStart
+part-begins f t words start end he hs =
+    let e : start * 2 + ptr words .1 ≡ ptr words .1 + 2 * min f (min t (length (now words))) = omega (arith, hs ∙ ap (min f) he) in
+    ap (λ (n : ℕ). (ptr words .0, n)) e
 
 module _ (d : List ℕ) (page offset word : ℕ) where
   pub page-put : 128 * page + 128 ≤ length d → pageStored d page offset word ≡ rejoined d page offset word

@@ -1,10 +1,11 @@
--- Check 2 over the lent slices, and the page part that a direct store is made into.
+-- Check 2 over the lent slices, the place of a part, and the page part that a direct store is made into.
 use mathlib.Core.Bool.{Bool, cond, _&&_}
 use mathlib.Core.List.{List, _++_}
-use Prim.Native.Nat.{ℕ, _+_, _*_}
+use Prim.Native.Nat.{ℕ, _+_, _*_, min}
 use lib.Dec.{leb, eqb}
 use lib.ListN.{length, take, drop, set}
 use lib.Seq.{slice}
+use denote.Ref.{RefT, ptr, now}
 use Rattle.machine.specs.declared.Machine.{Machine}
 
 -- "program or data slice is not 4,096 words"
@@ -25,6 +26,11 @@ slicesFit m rom «data» input outputLength =
     memoriesFit rom «data»
     && portFits (length input) (m .«input_cursor»)
     && portFits outputLength (m .«output_cursor»)
+
+-- Where a slice begins is a block of memory and a place in it (`ptr`); a 16-bit word takes two places.
+-- The part of a lent slice from one word up to another begins so many words on in that slice; past the slice's words, at their end.
+unfoldable pub partStart : ℕ → ℕ → RefT (List ℕ) → ℕ × ℕ
+partStart from to words = (ptr words .0, ptr words .1 + 2 * min from (min to (length (now words))))
 
 -- "A data page is the 128 words from 128 times DP"
 unfoldable pub pagePart : ℕ → List ℕ → List ℕ

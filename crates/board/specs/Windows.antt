@@ -4,13 +4,14 @@ use mathlib.Core.List.{List, []}
 use Prim.Native.Nat.{ℕ, _+_, _-_}
 use lib.ListN.{length, take, getD}
 use lib.Seq.{slice}
+use denote.Ref.{RefT, ptr, now}
 use Rattle.machine.specs.declared.Machine.{Machine}
 use Rattle.machine.specs.Range.{inRange}
 use Rattle.answers.specs.declared.Answer.{Answer}
 use Rattle.answers.specs.declared.Answer.the-variants.{Done, CellOutOfRange, SlicesUnfit, ProgramAbsent}
 use Rattle.answers.specs.Numbers.{isDone}
 use Rattle.board.specs.Regions.{inRom, inProgramB0, programPresent}
-use Rattle.board.specs.Slices.{memoriesFit, portFits}
+use Rattle.board.specs.Slices.{memoriesFit, portFits, partStart}
 
 -- "the run of words from the asked program address to the end of its region, shown in whichever of the two lent memories holds it"; "it stays in the lent data slice at 0200h"
 unfoldable pub windowOf : ℕ → ℕ → List ℕ → List ℕ → List ℕ
@@ -18,6 +19,13 @@ windowOf cnf address rom «data» =
     cond (inRom address) (slice address 0x1000 rom)
     (cond (inProgramB0 cnf address) (slice (address - 0xFF00 + 0x200) 0x300 «data»)
     [])
+
+-- "in whichever of the two lent memories holds it, without copying": where the window begins. An empty one is shown where the ROM begins.
+unfoldable pub windowStart : ℕ → ℕ → RefT (List ℕ) → RefT (List ℕ) → ℕ × ℕ
+windowStart cnf address rom «data» =
+    cond (inRom address) (partStart address 0x1000 rom)
+    (cond (inProgramB0 cnf address) (partStart (address - 0xFF00 + 0x200) 0x300 «data»)
+    (ptr rom))
 
 -- the program word at an address
 unfoldable pub programWord : ℕ → ℕ → List ℕ → List ℕ → ℕ
@@ -37,6 +45,10 @@ windowAnswer m address rom «data» =
 unfoldable pub windowShown : Machine → ℕ → List ℕ → List ℕ → List ℕ
 windowShown m address rom «data» =
     cond (isDone (windowAnswer m address rom «data»)) (windowOf (m .cnf) address rom «data») []
+
+unfoldable pub windowShownStart : Machine → ℕ → RefT (List ℕ) → RefT (List ℕ) → ℕ × ℕ
+windowShownStart m address rom «data» =
+    cond (isDone (windowAnswer m address (now rom) (now «data»))) (windowStart (m .cnf) address rom «data») (ptr rom)
 
 -- the output slice and its cursor are all that is lent here (ruling R32)
 unfoldable pub wordsSentAnswer : Machine → List ℕ → Answer

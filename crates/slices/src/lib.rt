@@ -3,7 +3,8 @@ ghost use mathlib.Core.Path.{_≡_};
 ghost use Prim.Native.Nat.{min};
 ghost use lib.ListN.{getD, set};
 ghost use lib.Seq.{slice};
-ghost use Rattle.board.specs.Slices.{memoriesFit, portFits, portSpent, slicesFit, pageStored};
+ghost use denote.Ref.{ptr};
+ghost use Rattle.board.specs.Slices.{memoriesFit, portFits, portSpent, slicesFit, partStart, pageStored};
 use machine::Machine;
 
 const MEMORY_WORDS: usize = 4096;
@@ -58,6 +59,7 @@ fn lesser(a: usize, b: usize) -> usize
 // The words at `from` up to, not including, `to`. The bounds are cut to the slice, so that every caller is answered.
 pub fn part<'a>(words: &'a [u16], from: usize, to: usize) -> &'a [u16]
     ensures { λ r. ⌜ now r ≡ slice from to (now (words .entry)) ⌝ }
+    ensures { λ r. ⌜ ptr r ≡ partStart from to (words .entry) ⌝ }
 {
     let end = lesser(to, words.len());
     let start = lesser(from, end);

@@ -1,6 +1,7 @@
 // What is shown of the lent slices: the fetch window and the words sent.
 ghost use mathlib.Core.Path.{_≡_};
-ghost use Rattle.board.specs.Windows.{windowOf, windowAnswer, windowShown, wordsSentAnswer, wordsSent};
+ghost use denote.Ref.{ptr};
+ghost use Rattle.board.specs.Windows.{windowOf, windowStart, windowAnswer, windowShown, windowShownStart, wordsSentAnswer, wordsSent};
 use answers::Answer;
 use answers::is_done;
 use machine::Machine;
@@ -14,6 +15,7 @@ use slices::port_fits;
 // The run of words from a program address to the end of its region, in whichever of the two memories holds it.
 pub fn region_window<'a>(cnf: u8, at: u16, rom: &'a [u16], data: &'a [u16]) -> &'a [u16]
     ensures { λ r. ⌜ now r ≡ windowOf cnf at (now (rom .entry)) (now («data» .entry)) ⌝ }
+    ensures { λ r. ⌜ ptr r ≡ windowStart cnf at (rom .entry) («data» .entry) ⌝ }
 {
     let from = at as usize;
     if in_rom(at) {
@@ -44,6 +46,7 @@ pub fn window_answer(m: Machine, at: u16, rom: &[u16], data: &[u16]) -> Answer
 // The fetch window, empty on a refusal.
 pub fn window<'a>(m: Machine, at: u16, rom: &'a [u16], data: &'a [u16]) -> &'a [u16]
     ensures { λ r. ⌜ now r ≡ windowShown m at (now (rom .entry)) (now («data» .entry)) ⌝ }
+    ensures { λ r. ⌜ ptr r ≡ windowShownStart m at (rom .entry) («data» .entry) ⌝ }
 {
     if is_done(window_answer(m, at, rom, data)) {
         return region_window(m.cnf, at, rom, data);
@@ -67,6 +70,7 @@ pub fn words_sent_answer(m: Machine, output: &[u16]) -> Answer
 // The words sent on port 1: the first part of the output slice, up to the cursor; empty on a refusal.
 pub fn words_sent<'a>(m: Machine, output: &'a [u16]) -> &'a [u16]
     ensures { λ r. ⌜ now r ≡ wordsSent m (now (output .entry)) ⌝ }
+    ensures { λ r. ⌜ ptr r ≡ ptr (output .entry) ⌝ }
 {
     if is_done(words_sent_answer(m, output)) {
         let sent = m.output_cursor as usize;

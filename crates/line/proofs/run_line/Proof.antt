@@ -25,7 +25,7 @@ same-length : tie.Need-same-length
 same-length c = search needs
 
 returns : tie.Need-returns
-returns c = rw (line-of, ← c .before .before .before .before .before .before .words-sent .ensures, ← c .before .before .before .before .before .before .before .number .ensures) (c .before .before .fit-line .ensures)
+returns c = rw (line-of, ← c .before .before .before .before .before .before .words-sent .ensures .0, ← c .before .before .before .before .before .before .before .number .ensures) (c .before .before .fit-line .ensures)
 
 pub run-line-spec : {M : Type 1} → statement M
 run-line-spec =

@@ -14,11 +14,11 @@ shared-slice-read-result c = search needs
 
 returns : tie.Need-returns
 unfolding programWord
-returns c = rw (c .before .before .region-window .ensures)
+returns c = rw (c .before .before .region-window .ensures .0)
 
 returns-2 : tie.Need-returns-2
 unfolding programWord
-returns-2 c = rw (← c .before .region-window .ensures) (sym (List·getD-eq-default (c .before .region-window .result .now) 0 {n = 0} (omega arith)))
+returns-2 c = rw (← c .before .region-window .ensures .0) (sym (List·getD-eq-default (c .before .region-window .result .now) 0 {n = 0} (omega arith)))
 
 pub program-word-spec : {M : Type 1} → statement M
 program-word-spec =

@@ -30,7 +30,7 @@ number-of-requires-2 : tie.Need-number-of-requires-2
 number-of-requires-2 c κs = search needs
 
 returns-2 : tie.Need-returns-2
-returns-2 c = sent-made _ (told (c .before .before .before .before .before .before .cells-answer .ensures) (c .before .before .before .before .before .is-done .ensures) (not-false _ (c .before .before .before .before .if1 .left))) (c .before .before .before .machine-of .ensures) _ (c .before .words-sent .ensures) (c .before .before .words-sent-answer .ensures) (c .number-of2 .ensures)
+returns-2 c = sent-made _ (told (c .before .before .before .before .before .before .cells-answer .ensures) (c .before .before .before .before .before .is-done .ensures) (not-false _ (c .before .before .before .before .if1 .left))) (c .before .before .before .machine-of .ensures) _ (c .before .words-sent .ensures .0) (c .before .before .words-sent-answer .ensures) (c .number-of2 .ensures)
 
 pub count-sent-spec : {M : Type 1} → statement M
 count-sent-spec =

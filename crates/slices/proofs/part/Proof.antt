@@ -1,4 +1,4 @@
-use Rattle.board.specs.SliceLaws.{part-shown}
+use Rattle.board.specs.SliceLaws.{part-shown, part-begins}
 use borrow.Author.Needs.{needs}
 use Rattle.slices.proofs.part.Statement.{statement}
 use Rattle.slices.proofs.part.Tie as tie
@@ -23,8 +23,10 @@ part-result-end c = search needs
 
 returns : tie.Need-returns
 returns c =
-    let a = c .before .before .before .before .args in
-    part-shown (a .from) (a .to) (a .words .now) _ _ (c .before .before .lesser .ensures) (c .before .lesser2 .ensures)
+    let a = c .before .before .before .before .args in (
+      part-shown (a .from) (a .to) (a .words .now) _ _ (c .before .before .lesser .ensures) (c .before .lesser2 .ensures),
+      part-begins (a .from) (a .to) (a .words) _ _ (c .before .before .lesser .ensures) (c .before .lesser2 .ensures),
+    )
 
 pub part-spec : {M : Type 1} → statement M
 part-spec =

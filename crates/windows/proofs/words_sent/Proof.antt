@@ -1,4 +1,4 @@
-use mathlib.Core.Path.{sym, ap, _∙_}
+use mathlib.Core.Path.{refl, sym, ap, _∙_}
 use Rattle.answers.specs.Numbers.{isDone}
 use lib.Seq.{length-take-le}
 use Rattle.board.specs.Windows.{wordsSent}
@@ -21,14 +21,14 @@ slice-aggregate-result c = sym (length-take-le _ _ (sent-done _ _ (sym (c .befor
 
 returns : tie.Need-returns
 unfolding wordsSent
-returns c = simp (sym (c .before .before .before .is-done .ensures ∙ ap isDone (c .before .before .before .before .words-sent-answer .ensures)) ∙ c .before .before .if1 .taken)
+returns c = (simp (sym (c .before .before .before .is-done .ensures ∙ ap isDone (c .before .before .before .before .words-sent-answer .ensures)) ∙ c .before .before .if1 .taken), refl)
 
 slice-aggregate-result-2 : tie.Need-slice-aggregate-result-2
 slice-aggregate-result-2 c = search needs
 
 returns-2 : tie.Need-returns-2
 unfolding wordsSent
-returns-2 c = simp (sym (c .before .before .is-done .ensures ∙ ap isDone (c .before .before .before .words-sent-answer .ensures)) ∙ c .before .if1 .left)
+returns-2 c = (simp (sym (c .before .before .is-done .ensures ∙ ap isDone (c .before .before .before .words-sent-answer .ensures)) ∙ c .before .if1 .left), refl)
 
 pub words-sent-spec : {M : Type 1} → statement M
 words-sent-spec =

@@ -8,7 +8,7 @@ window-requires : tie.Need-window-requires
 window-requires c κs = search needs
 
 returns : tie.Need-returns
-returns c = ap length (c .window .ensures)
+returns c = ap length (c .window .ensures .0)
 
 pub window-length-spec : {M : Type 1} → statement M
 window-length-spec = tie.close (tie.spec window-requires returns)
