@@ -28,9 +28,9 @@ use Rattle.instructions.specs.declared.Instruction.{Instruction}
 use Rattle.instructions.specs.declared.Instruction.the-variants as family
 
 -- the number of a letter, in a list of letters and their numbers; 0 where it has none
-abbrev pub numberOf : List (String × ℕ) → String → ℕ
-numberOf [] c = 0
-numberOf (e ∷ es) c = pick (eqt c (e .0)) (e .1) (numberOf es c)
+abbrev pub letterNumber : List (String × ℕ) → String → ℕ
+letterNumber [] c = 0
+letterNumber (e ∷ es) c = pick (eqt c (e .0)) (e .1) (letterNumber es c)
 
 -- Bit k of a word of 16 bits: as printed, or under a letter that letter's bit, the lowest at the letter's lowest place.
 -- Bits of a number above those that the page has for it are lost.
@@ -55,7 +55,7 @@ printed (r ∷ rs) n = pick (eqt (r .name) n) (text r) (printed rs n)
 
 -- the word of the page of a name, with these numbers for its letters
 unfoldable pub wordOf : String × List (String × ℕ) → ℕ
-wordOf page = bitsAfter (printed basePages (page .0)) (numberOf (page .1)) 0 16
+wordOf page = bitsAfter (printed basePages (page .0)) (letterNumber (page .1)) 0 16
 
 -- Bits 6 to 4 of an indirect operand (Table 4-1, 4-6).
 unfoldable pub modificationBits : Modification → ℕ

@@ -12,7 +12,7 @@ use borrow.Author.Tests.{lt-ltb, le-ltb}
 use Rattle.instructions.specs.Every.{both-left, both-right, all, all-at, by-order}
 use Rattle.instructions.specs.Encoding.{Row, pick, both, printedAt, allows, fits, widthOf, lowestOf, under, has}
 use Rattle.instructions.specs.Pages.{basePages}
-use Rattle.encodings.specs.Encode.{bitOf, bitsAfter, text, numberOf, printed, wordOf}
+use Rattle.encodings.specs.Encode.{bitOf, bitsAfter, text, letterNumber, printed, wordOf}
 use Rattle.encodings.specs.Bits.{bits-after, bit-of-low, bit-of-field}
 
 abbrev pub before : Bool → String → List String → List String
@@ -36,12 +36,12 @@ abbrev pub isIn : String → List String → Bool
 isIn c [] = false
 isIn c (d ∷ ds) = pick (eqt c d) true (isIn c ds)
 
-pub number-in : (f : String → ℕ) (cs : List String) (c : String) → T (isIn c cs) → numberOf (numbered f cs) c ≡ f c
+pub number-in : (f : String → ℕ) (cs : List String) (c : String) → T (isIn c cs) → letterNumber (numbered f cs) c ≡ f c
 number-in f [] c t = absurd t
 number-in f (d ∷ ds) c t = go (eqt c d) (eqt→eq c d) t (number-in f ds c)
   where
-    go : (b : Bool) → (T b → c ≡ d) → T (pick b true (isIn c ds)) → (T (isIn c ds) → numberOf (numbered f ds) c ≡ f c)
-        → pick b (f d) (numberOf (numbered f ds) c) ≡ f c
+    go : (b : Bool) → (T b → c ≡ d) → T (pick b true (isIn c ds)) → (T (isIn c ds) → letterNumber (numbered f ds) c ≡ f c)
+        → pick b (f d) (letterNumber (numbered f ds) c) ≡ f c
     go true e t k = ap f (sym (e tt))
     go false e t k = k t
 
@@ -100,14 +100,14 @@ unfolding framed framedAt wordOf
 word-back r w f h u l =
     let z : 0 ≡ w / 2 ^ 16 = omega arith in
     let t : String = text r in
-    let v : String → ℕ = numberOf (numbered (under t 16 w) (letters t 16)) in
+    let v : String → ℕ = letterNumber (numbered (under t 16 w) (letters t 16)) in
     let e : printed basePages (r .name) ≡ t = eqt→eq (printed basePages (r .name)) t (both-right (all (framedAt r) 4 0) (eqt (printed basePages (r .name)) t) f) in
     ap (λ (s : String). bitsAfter s v 0 16) e
     ∙ ap (λ (n : ℕ). bitsAfter t v n 16) z
     ∙ bits-after t v w 16
     (λ j o. bit j o (all-at (framedAt r) 4 0 j (both-left (all (framedAt r) 4 0) (eqt (printed basePages (r .name)) t) f) (omega arith) (omega arith)))
   where
-    bit : (j : ℕ) → j < 16 → T (framedAt r j) → bitOf (text r) (numberOf (numbered (under (text r) 16 w) (letters (text r) 16))) j ≡ w / 2 ^ j % 2
+    bit : (j : ℕ) → j < 16 → T (framedAt r j) → bitOf (text r) (letterNumber (numbered (under (text r) 16 w) (letters (text r) 16))) j ≡ w / 2 ^ j % 2
     bit j o t =
         let c : String = printedAt (text r) j in
         let lo : ℕ = lowestOf (text r) c 16 0 in
@@ -117,7 +117,7 @@ word-back r w f h u l =
         let i : Bool = isIn c (letters (text r) 16) in
         let e : c ≡ d = eqt→eq c d (both-left (eqt c d) (pick (eqt c "0") true (pick (eqt c "1") true (both i m))) t) in
         bit-is (eqt c "0") (eqt c "1") (both i m) (w / 2 ^ j % 2)
-        (numberOf (numbered (under (text r) 16 w) (letters (text r) 16)) c / 2 ^ (j - lo) % 2)
+        (letterNumber (numbered (under (text r) 16 w) (letters (text r) 16)) c / 2 ^ (j - lo) % 2)
         (subst (λ (s : String). T (allows s (w / 2 ^ j % 2))) (sym e) (printed-bit r w j u l o))
         (both-right (eqt c d) (pick (eqt c "0") true (pick (eqt c "1") true (both i m))) t)
         (λ n. ap (λ (x : ℕ). x / 2 ^ (j - lo) % 2) (number-in (under (text r) 16 w) (letters (text r) 16) c (both-left i m n))
