@@ -6,7 +6,7 @@ use native.Mathlib.Omega.{arith}
 use lib.Dec.{T, leb, eqb, leb→le, le→leb, eqb→eq, eqb-refl}
 use Rattle.instructions.specs.Every.{both-left, both-right, all, all-at}
 use Prim.Native.String.{String}
-use Rattle.instructions.specs.Encoding.{pick, both, fits, lowFits, addressOf, indirectOf, modificationOf, nextOf, auxiliary}
+use Rattle.instructions.specs.Encoding.{pick, both, fits, lowFits, addressModeOf, indirectOf, modificationOf, nextOf, auxiliary}
 use Rattle.instructions.specs.Pages.{pages}
 use Rattle.instructions.specs.Decode.{decodeOf}
 use Rattle.instructions.specs.declared.Auxiliary.the-variants.{Mar}
@@ -67,11 +67,11 @@ nop-word w h t =
     omega arith
 
 pub nop-is-mar : NopIsMar
-unfolding lowFits decodeOf addressOf
+unfolding lowFits decodeOf addressModeOf
 nop-is-mar = record { words = one-word 131 0x5500 tt nop-word; meaning = refl }
 
 larp-words : (k : ℕ) → k < 8 → decodeOf (0x5588 + k) ≡ auxiliary (Mar (Indirect (record { modification = None; next = To k })))
-unfolding lowFits decodeOf addressOf indirectOf modificationOf nextOf
+unfolding lowFits decodeOf addressModeOf indirectOf modificationOf nextOf
 larp-words zero h = refl
 larp-words (suc zero) h = refl
 larp-words (suc (suc zero)) h = refl

@@ -10,7 +10,7 @@ use lib.Dec.{T, eqb, eqb→eq}
 use lib.ListN.{length}
 use lib.Text.{eqt→eq}
 use Rattle.instructions.specs.Every.{both-left, both-right, all, by-order}
-use Rattle.instructions.specs.Encoding.{Row, row, pick, both, fits, has, means, lowFits, addressOf, indirectOf}
+use Rattle.instructions.specs.Encoding.{Row, row, pick, both, fits, has, means, lowFits, addressModeOf, indirectOf}
 use Rattle.instructions.specs.Pages.{basePages, otherPages, pages}
 use Rattle.instructions.specs.Decode.{decodeOf}
 use Rattle.instructions.specs.Places.{placeIn, meaningIn, meaningAt, decode-at-place}
@@ -69,18 +69,18 @@ low-passes r w t f a e o =
     )
 
 -- what the tests say of I and D
-isIndirect-is : (v low : ℕ) → v % 256 ≡ low → T (operandFields low) → isIndirect (addressOf (v % 256)) ≡ v / 128 % 2
+isIndirect-is : (v low : ℕ) → v % 256 ≡ low → T (operandFields low) → isIndirect (addressModeOf (v % 256)) ≡ v / 128 % 2
 isIndirect-is v low e t =
-    let x : isIndirect (addressOf low) ≡ low / 128 % 2
-    = eqb→eq (isIndirect (addressOf low)) (low / 128 % 2)
-    (both-left (eqb (isIndirect (addressOf low)) (low / 128 % 2)) (eqb (addressBits (addressOf low)) (low % 128)) t) in
+    let x : isIndirect (addressModeOf low) ≡ low / 128 % 2
+    = eqb→eq (isIndirect (addressModeOf low)) (low / 128 % 2)
+    (both-left (eqb (isIndirect (addressModeOf low)) (low / 128 % 2)) (eqb (addressBits (addressModeOf low)) (low % 128)) t) in
     rw e (x ∙ omega arith)
 
-addressBits-is : (v low : ℕ) → v % 256 ≡ low → T (operandFields low) → addressBits (addressOf (v % 256)) ≡ v / 1 % 128
+addressBits-is : (v low : ℕ) → v % 256 ≡ low → T (operandFields low) → addressBits (addressModeOf (v % 256)) ≡ v / 1 % 128
 addressBits-is v low e t =
-    let x : addressBits (addressOf low) ≡ low % 128
-    = eqb→eq (addressBits (addressOf low)) (low % 128)
-    (both-right (eqb (isIndirect (addressOf low)) (low / 128 % 2)) (eqb (addressBits (addressOf low)) (low % 128)) t) in
+    let x : addressBits (addressModeOf low) ≡ low % 128
+    = eqb→eq (addressBits (addressModeOf low)) (low % 128)
+    (both-right (eqb (isIndirect (addressModeOf low)) (low / 128 % 2)) (eqb (addressBits (addressModeOf low)) (low % 128)) t) in
     rw e (x ∙ omega arith)
 
 indirectBits-is : (v low : ℕ) → v % 256 ≡ low → T (branchOperand low) → indirectBits (indirectOf (v % 256)) ≡ v / 1 % 128
@@ -93,8 +93,8 @@ row-kept : (r : Row) (w : ℕ) (o b : Bool) → (T o → r .lower ≡ "IDDD DDDD
     → w < 65536 → T (has r w)
     → pick o unread (pick b unread (fields (means r w))) ≡ pick o unread (pick b unread (read r w))
     → pick o (means r (clearedWord w)) (pick b (means r (clearedWord w)) Nothing) ≡ pick o (means r w) (pick b (means r w) Nothing)
-    → (isIndirect (addressOf (clearedWord w % 256)) ≡ clearedWord w / 128 % 2
-    → addressBits (addressOf (clearedWord w % 256)) ≡ clearedWord w / 1 % 128
+    → (isIndirect (addressModeOf (clearedWord w % 256)) ≡ clearedWord w / 128 % 2
+    → addressBits (addressModeOf (clearedWord w % 256)) ≡ clearedWord w / 1 % 128
     → pick o (fields (means r (clearedWord w))) unread ≡ pick o (read r (clearedWord w)) unread)
     → (indirectBits (indirectOf (clearedWord w % 256)) ≡ clearedWord w / 1 % 128
     → pick b (fields (means r (clearedWord w))) unread ≡ pick b (read r (clearedWord w)) unread)
@@ -166,7 +166,7 @@ kept-at p w l h t =
     (every-at framed basePages p n all-framed) h t
     (same-at (λ q. pick (isOperand q) unread (pick (isBranch q) unread (fields (means q w)))) (λ q. pick (isOperand q) unread (pick (isBranch q) unread (read q w))) basePages p n (plain-rows w))
     (same-at (λ q. pick (isOperand q) (means q v) (pick (isBranch q) (means q v) Nothing)) (λ q. pick (isOperand q) (means q w) (pick (isBranch q) (means q w) Nothing)) basePages p n
-    (same-rows w v (cleared-upper w) (ap addressOf lv ∙ same-operand (w % 256) .0) (ap indirectOf lv ∙ same-operand (w % 256) .1)))
+    (same-rows w v (cleared-upper w) (ap addressModeOf lv ∙ same-operand (w % 256) .0) (ap indirectOf lv ∙ same-operand (w % 256) .1)))
     (λ a b. same-at (λ q. pick (isOperand q) (fields (means q v)) unread) (λ q. pick (isOperand q) (read q v) unread) basePages p n (operand-rows v a b))
     (λ a. same-at (λ q. pick (isBranch q) (fields (means q v)) unread) (λ q. pick (isBranch q) (read q v) unread) basePages p n (branch-rows v a))
 

@@ -7,7 +7,7 @@ use native.Mathlib.Omega.{arith}
 use lib.Dec.{T, eqb, ltb, ltb→lt}
 use borrow.Author.Tests.{lt-ltb, le-ltb}
 use Rattle.instructions.specs.Every.{all, all-at, by-order}
-use Rattle.instructions.specs.Encoding.{pick, both, lowFits, addressOf, indirectOf, nextOf, modificationOf}
+use Rattle.instructions.specs.Encoding.{pick, both, lowFits, addressModeOf, indirectOf, nextOf, modificationOf}
 use Rattle.dma.specs.declared.Address.the-variants as operand
 use Rattle.encodings.specs.Encode.{isIndirect, addressBits, indirectBits, modificationBits, nextBits}
 use Rattle.encodings.specs.Rows.{fields}
@@ -36,13 +36,13 @@ low-test t f low a h o =
 
 -- the fields that an operand makes are those of its low byte
 abbrev pub operandFields : ℕ → Bool
-operandFields low = both (eqb (isIndirect (addressOf low)) (low / 128 % 2)) (eqb (addressBits (addressOf low)) (low % 128))
+operandFields low = both (eqb (isIndirect (addressModeOf low)) (low / 128 % 2)) (eqb (addressBits (addressModeOf low)) (low % 128))
 
 abbrev pub branchOperand : ℕ → Bool
 branchOperand low = eqb (indirectBits (indirectOf low)) (low % 128)
 
 pub operands-tested : T (all (lowTest "IDDD DDDD" operandFields) 8 0)
-unfolding lowTest cleared lowFits addressOf indirectOf nextOf modificationOf isIndirect addressBits indirectBits modificationBits nextBits
+unfolding lowTest cleared lowFits addressModeOf indirectOf nextOf modificationOf isIndirect addressBits indirectBits modificationBits nextBits
 operands-tested = tt
 
 pub branches-tested : T (all (lowTest "1DDD DDDD" branchOperand) 8 0)
@@ -57,8 +57,8 @@ free-indirect low n =
     let h : low / 8 * 8 / 8 ≡ low / 8 = omega arith in
     rw (m, h, n)
 
-pub free-address : (low : ℕ) → 128 ≤ low → eqb (low / 8 % 2) 1 ≡ false → addressOf (low / 8 * 8) ≡ addressOf low
-unfolding addressOf
+pub free-address : (low : ℕ) → 128 ≤ low → eqb (low / 8 % 2) 1 ≡ false → addressModeOf (low / 8 * 8) ≡ addressModeOf low
+unfolding addressModeOf
 free-address low d n =
     rw (le-ltb low 128 d, le-ltb (low / 8 * 8) 128 (omega arith)) (ap operand.Indirect (free-indirect low n))
 
@@ -66,16 +66,16 @@ pub by-bool : {P : Type 0} (b : Bool) → (b ≡ true → P) → (b ≡ false �
 by-bool true y n = y refl
 by-bool false y n = n refl
 
-pub same-operand : (low : ℕ) → (addressOf (cleared low) ≡ addressOf low) × (indirectOf (cleared low) ≡ indirectOf low)
+pub same-operand : (low : ℕ) → (addressModeOf (cleared low) ≡ addressModeOf low) × (indirectOf (cleared low) ≡ indirectOf low)
 unfolding cleared
 same-operand low =
     by-order low 128 (λ d. whole (rw (lt-ltb low 128 d)))
     (λ d. by-bool (eqb (low / 8 % 2) 1) (λ n. whole (rw (le-ltb low 128 d, n)))
     (λ n. let e : cleared low ≡ low / 8 * 8 = rw (le-ltb low 128 d, n) in
-    (ap addressOf e ∙ free-address low d n, ap indirectOf e ∙ free-indirect low n)))
+    (ap addressModeOf e ∙ free-address low d n, ap indirectOf e ∙ free-indirect low n)))
   where
-    whole : cleared low ≡ low → (addressOf (cleared low) ≡ addressOf low) × (indirectOf (cleared low) ≡ indirectOf low)
-    whole e = (ap addressOf e, ap indirectOf e)
+    whole : cleared low ≡ low → (addressModeOf (cleared low) ≡ addressModeOf low) × (indirectOf (cleared low) ≡ indirectOf low)
+    whole e = (ap addressModeOf e, ap indirectOf e)
 
 -- the word without the bits that are free
 abbrev pub clearedWord : ℕ → ℕ

@@ -5,7 +5,7 @@ use mathlib.Core.List.{List, [], _∷_, map}
 use Prim.Native.Nat.{ℕ, _/_, _%_}
 use Prim.Native.String.{String}
 use lib.Text.{eqt}
-use Rattle.instructions.specs.Encoding.{Row, pick, under, means, addressOf, indirectOf}
+use Rattle.instructions.specs.Encoding.{Row, pick, under, means, addressModeOf, indirectOf}
 use Rattle.instructions.specs.Pages.{basePages}
 use Rattle.instructions.specs.declared.Decoded.{Decoded}
 use Rattle.instructions.specs.declared.Decoded.the-variants.{Base, Published, Nothing}
@@ -43,11 +43,11 @@ readWith which i d w [] = []
 readWith which i d w (r ∷ rs) =
     pick (which r) (r .name, numberedWith i d (under (text r) 16 w) (letters (text r) 16)) unread ∷ readWith which i d w rs
 
-pub operand-rows : (w : ℕ) → isIndirect (addressOf (w % 256)) ≡ w / 128 % 2 → addressBits (addressOf (w % 256)) ≡ w / 1 % 128
+pub operand-rows : (w : ℕ) → isIndirect (addressModeOf (w % 256)) ≡ w / 128 % 2 → addressBits (addressModeOf (w % 256)) ≡ w / 1 % 128
     → map (λ r. pick (isOperand r) (fields (means r w)) unread) basePages ≡ map (λ r. pick (isOperand r) (read r w) unread) basePages
 unfolding fields fieldsOf accumulatorFields multiplierFields auxiliaryFields branchFields transferFields modeFields letters
 operand-rows w a b =
-    ap (λ (i : ℕ). readWith isOperand i (addressBits (addressOf (w % 256))) w basePages) a
+    ap (λ (i : ℕ). readWith isOperand i (addressBits (addressModeOf (w % 256))) w basePages) a
     ∙ ap (λ (d : ℕ). readWith isOperand (w / 128 % 2) d w basePages) b
 
 pub branch-rows : (w : ℕ) → indirectBits (indirectOf (w % 256)) ≡ w / 1 % 128
@@ -55,7 +55,7 @@ pub branch-rows : (w : ℕ) → indirectBits (indirectOf (w % 256)) ≡ w / 1 % 
 unfolding fields fieldsOf accumulatorFields multiplierFields auxiliaryFields branchFields transferFields modeFields letters
 branch-rows w a = ap (λ (d : ℕ). readWith isBranch 0 d w basePages) a
 
-pub same-rows : (w v : ℕ) → v / 256 ≡ w / 256 → addressOf (v % 256) ≡ addressOf (w % 256) → indirectOf (v % 256) ≡ indirectOf (w % 256)
+pub same-rows : (w v : ℕ) → v / 256 ≡ w / 256 → addressModeOf (v % 256) ≡ addressModeOf (w % 256) → indirectOf (v % 256) ≡ indirectOf (w % 256)
     → map (λ r. pick (isOperand r) (means r v) (pick (isBranch r) (means r v) Nothing)) basePages
     ≡ map (λ r. pick (isOperand r) (means r w) (pick (isBranch r) (means r w) Nothing)) basePages
 same-rows w v a b c = rw (a, b, c)

@@ -86,8 +86,8 @@ unfoldable pub indirectOf : ℕ → Indirect
 indirectOf low = record { modification = modificationOf (low / 16 % 8); next = nextOf low }
 
 -- Bit 7 is 0: direct, with bits 6 to 0; else indirect (4.1.1 and 4.1.2).
-unfoldable pub addressOf : ℕ → Address
-addressOf low = pick (ltb low 128) (operand.Direct low) (operand.Indirect (indirectOf low))
+unfoldable pub addressModeOf : ℕ → Address
+addressModeOf low = pick (ltb low 128) (operand.Direct low) (operand.Indirect (indirectOf low))
 
 -- a low byte of 1011 and four bits more: the reserved modification
 abbrev pub reserved : ℕ → Bool

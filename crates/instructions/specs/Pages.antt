@@ -1,6 +1,6 @@
 -- The 133 pages of section 4.3, one row for each: the bits as the page (or Table 4-4) prints them, and what the page makes of them.
 use mathlib.Core.List.{List, [], _∷_, _++_}
-use Rattle.instructions.specs.Encoding.{Row, row, other, addressOf, indirectOf}
+use Rattle.instructions.specs.Encoding.{Row, row, other, addressModeOf, indirectOf}
 use Rattle.instructions.specs.declared.Accumulator.the-variants.{Add, Sub, Lac, Addh, Adds, Subh, Subs, Subc, Zalh, Zals, And, Or, Xor, Sacl, Sach, Lack, Addk, Subk, Cmpl, Neg, Abs, Sfl, Sfr}
 use Rattle.instructions.specs.declared.Multiplier.the-variants.{Lt, Lta, Ltp, Ltd, Lts, Mpy, Mpya, Mpys, Sqra, Sqrs, Mac, Macd, Spl, Sph, Mpyk, Pac, Apac, Spac, Spm}
 use Rattle.instructions.specs.declared.Auxiliary.the-variants.{Lar, Sar, Mar, Ldp, Lark, Adrk, Sbrk, Ldpk}
@@ -12,21 +12,21 @@ use Rattle.instructions.specs.Encoding.{accumulator, multiplier, auxilia
 -- The base: the accumulator.
 abbrev pub accumulatorPages : List Row
 accumulatorPages =
-    row "ADD" "0000 SSSS" "IDDD DDDD" (λ f low. accumulator (Add (f "S") (addressOf low))) ∷
-    row "SUB" "0001 SSSS" "IDDD DDDD" (λ f low. accumulator (Sub (f "S") (addressOf low))) ∷
-    row "LAC" "0010 SSSS" "IDDD DDDD" (λ f low. accumulator (Lac (f "S") (addressOf low))) ∷
-    row "ADDH" "0100 1000" "IDDD DDDD" (λ f low. accumulator (Addh (addressOf low))) ∷
-    row "ADDS" "0100 1001" "IDDD DDDD" (λ f low. accumulator (Adds (addressOf low))) ∷
-    row "SUBH" "0100 0100" "IDDD DDDD" (λ f low. accumulator (Subh (addressOf low))) ∷
-    row "SUBS" "0100 0101" "IDDD DDDD" (λ f low. accumulator (Subs (addressOf low))) ∷
-    row "SUBC" "0100 0111" "IDDD DDDD" (λ f low. accumulator (Subc (addressOf low))) ∷
-    row "ZALH" "0100 0000" "IDDD DDDD" (λ f low. accumulator (Zalh (addressOf low))) ∷
-    row "ZALS" "0100 0001" "IDDD DDDD" (λ f low. accumulator (Zals (addressOf low))) ∷
-    row "AND" "0100 1110" "IDDD DDDD" (λ f low. accumulator (And (addressOf low))) ∷
-    row "OR" "0100 1101" "IDDD DDDD" (λ f low. accumulator (Or (addressOf low))) ∷
-    row "XOR" "0100 1100" "IDDD DDDD" (λ f low. accumulator (Xor (addressOf low))) ∷
-    row "SACL" "0110 0XXX" "IDDD DDDD" (λ f low. accumulator (Sacl (f "X") (addressOf low))) ∷
-    row "SACH" "0110 1XXX" "IDDD DDDD" (λ f low. accumulator (Sach (f "X") (addressOf low))) ∷
+    row "ADD" "0000 SSSS" "IDDD DDDD" (λ f low. accumulator (Add (f "S") (addressModeOf low))) ∷
+    row "SUB" "0001 SSSS" "IDDD DDDD" (λ f low. accumulator (Sub (f "S") (addressModeOf low))) ∷
+    row "LAC" "0010 SSSS" "IDDD DDDD" (λ f low. accumulator (Lac (f "S") (addressModeOf low))) ∷
+    row "ADDH" "0100 1000" "IDDD DDDD" (λ f low. accumulator (Addh (addressModeOf low))) ∷
+    row "ADDS" "0100 1001" "IDDD DDDD" (λ f low. accumulator (Adds (addressModeOf low))) ∷
+    row "SUBH" "0100 0100" "IDDD DDDD" (λ f low. accumulator (Subh (addressModeOf low))) ∷
+    row "SUBS" "0100 0101" "IDDD DDDD" (λ f low. accumulator (Subs (addressModeOf low))) ∷
+    row "SUBC" "0100 0111" "IDDD DDDD" (λ f low. accumulator (Subc (addressModeOf low))) ∷
+    row "ZALH" "0100 0000" "IDDD DDDD" (λ f low. accumulator (Zalh (addressModeOf low))) ∷
+    row "ZALS" "0100 0001" "IDDD DDDD" (λ f low. accumulator (Zals (addressModeOf low))) ∷
+    row "AND" "0100 1110" "IDDD DDDD" (λ f low. accumulator (And (addressModeOf low))) ∷
+    row "OR" "0100 1101" "IDDD DDDD" (λ f low. accumulator (Or (addressModeOf low))) ∷
+    row "XOR" "0100 1100" "IDDD DDDD" (λ f low. accumulator (Xor (addressModeOf low))) ∷
+    row "SACL" "0110 0XXX" "IDDD DDDD" (λ f low. accumulator (Sacl (f "X") (addressModeOf low))) ∷
+    row "SACH" "0110 1XXX" "IDDD DDDD" (λ f low. accumulator (Sach (f "X") (addressModeOf low))) ∷
     row "LACK" "1100 1010" "KKKK KKKK" (λ f low. accumulator (Lack (f "K"))) ∷
     row "ADDK" "1100 1100" "KKKK KKKK" (λ f low. accumulator (Addk (f "K"))) ∷
     row "SUBK" "1100 1101" "KKKK KKKK" (λ f low. accumulator (Subk (f "K"))) ∷
@@ -40,20 +40,20 @@ accumulatorPages =
 -- The base: T, P and multiplication.
 abbrev pub multiplierPages : List Row
 multiplierPages =
-    row "LT" "0011 1100" "IDDD DDDD" (λ f low. multiplier (Lt (addressOf low))) ∷
-    row "LTA" "0011 1101" "IDDD DDDD" (λ f low. multiplier (Lta (addressOf low))) ∷
-    row "LTP" "0011 1110" "IDDD DDDD" (λ f low. multiplier (Ltp (addressOf low))) ∷
-    row "LTD" "0011 1111" "IDDD DDDD" (λ f low. multiplier (Ltd (addressOf low))) ∷
-    row "LTS" "0101 1011" "IDDD DDDD" (λ f low. multiplier (Lts (addressOf low))) ∷
-    row "MPY" "0011 1000" "IDDD DDDD" (λ f low. multiplier (Mpy (addressOf low))) ∷
-    row "MPYA" "0011 1010" "IDDD DDDD" (λ f low. multiplier (Mpya (addressOf low))) ∷
-    row "MPYS" "0011 1011" "IDDD DDDD" (λ f low. multiplier (Mpys (addressOf low))) ∷
-    row "SQRA" "0011 1001" "IDDD DDDD" (λ f low. multiplier (Sqra (addressOf low))) ∷
-    row "SQRS" "0101 1010" "IDDD DDDD" (λ f low. multiplier (Sqrs (addressOf low))) ∷
-    row "MAC" "0101 1101" "IDDD DDDD" (λ f low. multiplier (Mac (addressOf low))) ∷
-    row "MACD" "0101 1100" "IDDD DDDD" (λ f low. multiplier (Macd (addressOf low))) ∷
-    row "SPL" "0111 1100" "IDDD DDDD" (λ f low. multiplier (Spl (addressOf low))) ∷
-    row "SPH" "0111 1101" "IDDD DDDD" (λ f low. multiplier (Sph (addressOf low))) ∷
+    row "LT" "0011 1100" "IDDD DDDD" (λ f low. multiplier (Lt (addressModeOf low))) ∷
+    row "LTA" "0011 1101" "IDDD DDDD" (λ f low. multiplier (Lta (addressModeOf low))) ∷
+    row "LTP" "0011 1110" "IDDD DDDD" (λ f low. multiplier (Ltp (addressModeOf low))) ∷
+    row "LTD" "0011 1111" "IDDD DDDD" (λ f low. multiplier (Ltd (addressModeOf low))) ∷
+    row "LTS" "0101 1011" "IDDD DDDD" (λ f low. multiplier (Lts (addressModeOf low))) ∷
+    row "MPY" "0011 1000" "IDDD DDDD" (λ f low. multiplier (Mpy (addressModeOf low))) ∷
+    row "MPYA" "0011 1010" "IDDD DDDD" (λ f low. multiplier (Mpya (addressModeOf low))) ∷
+    row "MPYS" "0011 1011" "IDDD DDDD" (λ f low. multiplier (Mpys (addressModeOf low))) ∷
+    row "SQRA" "0011 1001" "IDDD DDDD" (λ f low. multiplier (Sqra (addressModeOf low))) ∷
+    row "SQRS" "0101 1010" "IDDD DDDD" (λ f low. multiplier (Sqrs (addressModeOf low))) ∷
+    row "MAC" "0101 1101" "IDDD DDDD" (λ f low. multiplier (Mac (addressModeOf low))) ∷
+    row "MACD" "0101 1100" "IDDD DDDD" (λ f low. multiplier (Macd (addressModeOf low))) ∷
+    row "SPL" "0111 1100" "IDDD DDDD" (λ f low. multiplier (Spl (addressModeOf low))) ∷
+    row "SPH" "0111 1101" "IDDD DDDD" (λ f low. multiplier (Sph (addressModeOf low))) ∷
     row "MPYK" "101K KKKK" "KKKK KKKK" (λ f low. multiplier (Mpyk (f "K"))) ∷
     row "PAC" "1100 1110" "0001 0100" (λ f low. multiplier Pac) ∷
     row "APAC" "1100 1110" "0001 0101" (λ f low. multiplier Apac) ∷
@@ -64,10 +64,10 @@ multiplierPages =
 -- The base: auxiliary registers and the data page.
 abbrev pub auxiliaryPages : List Row
 auxiliaryPages =
-    row "LAR" "0011 0RRR" "IDDD DDDD" (λ f low. auxiliary (Lar (f "R") (addressOf low))) ∷
-    row "SAR" "0111 0RRR" "IDDD DDDD" (λ f low. auxiliary (Sar (f "R") (addressOf low))) ∷
-    row "MAR" "0101 0101" "IDDD DDDD" (λ f low. auxiliary (Mar (addressOf low))) ∷
-    row "LDP" "0101 0010" "IDDD DDDD" (λ f low. auxiliary (Ldp (addressOf low))) ∷
+    row "LAR" "0011 0RRR" "IDDD DDDD" (λ f low. auxiliary (Lar (f "R") (addressModeOf low))) ∷
+    row "SAR" "0111 0RRR" "IDDD DDDD" (λ f low. auxiliary (Sar (f "R") (addressModeOf low))) ∷
+    row "MAR" "0101 0101" "IDDD DDDD" (λ f low. auxiliary (Mar (addressModeOf low))) ∷
+    row "LDP" "0101 0010" "IDDD DDDD" (λ f low. auxiliary (Ldp (addressModeOf low))) ∷
     row "LARK" "1100 0RRR" "KKKK KKKK" (λ f low. auxiliary (Lark (f "R") (f "K"))) ∷
     row "ADRK" "0111 1110" "KKKK KKKK" (λ f low. auxiliary (Adrk (f "K"))) ∷
     row "SBRK" "0111 1111" "KKKK KKKK" (λ f low. auxiliary (Sbrk (f "K"))) ∷
@@ -94,15 +94,15 @@ branchPages =
 -- The base: the data move and the ports.
 abbrev pub transferPages : List Row
 transferPages =
-    row "DMOV" "0101 0110" "IDDD DDDD" (λ f low. transfers (Dmov (addressOf low))) ∷
-    row "IN" "1000 AAAA" "IDDD DDDD" (λ f low. transfers (In (f "A") (addressOf low))) ∷
-    row "OUT" "1110 AAAA" "IDDD DDDD" (λ f low. transfers (Out (f "A") (addressOf low))) ∷
+    row "DMOV" "0101 0110" "IDDD DDDD" (λ f low. transfers (Dmov (addressModeOf low))) ∷
+    row "IN" "1000 AAAA" "IDDD DDDD" (λ f low. transfers (In (f "A") (addressModeOf low))) ∷
+    row "OUT" "1110 AAAA" "IDDD DDDD" (λ f low. transfers (Out (f "A") (addressModeOf low))) ∷
     []
 
 -- The base: modes, repeats and the stack. ROVM is lost: Table 4-4 (ruling R6).
 abbrev pub modePages : List Row
 modePages =
-    row "RPT" "0100 1011" "IDDD DDDD" (λ f low. modes (Rpt (addressOf low))) ∷
+    row "RPT" "0100 1011" "IDDD DDDD" (λ f low. modes (Rpt (addressModeOf low))) ∷
     row "RPTK" "1100 1011" "KKKK KKKK" (λ f low. modes (Rptk (f "K"))) ∷
     row "SOVM" "1100 1110" "0000 0011" (λ f low. modes Sovm) ∷
     row "ROVM" "1100 1110" "0000 0010" (λ f low. modes Rovm) ∷

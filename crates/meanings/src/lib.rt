@@ -1,7 +1,7 @@
 // What the page at a place in the list of pages makes of a word.
 ghost use mathlib.Core.Path.{_≡_};
 ghost use Prim.Native.Nat.{_<_, _≤_};
-ghost use Rattle.instructions.specs.Encoding.{modificationOf, nextOf, indirectOf, addressOf};
+ghost use Rattle.instructions.specs.Encoding.{modificationOf, nextOf, indirectOf, addressModeOf};
 ghost use Rattle.instructions.specs.Encoding.{accumulator, multiplier, auxiliary, branches, transfers, modes};
 ghost use Rattle.instructions.specs.Places.{meaningAt};
 ghost use Rattle.instructions.specs.declared.Decoded.the-variants.{Base};
@@ -56,7 +56,7 @@ fn indirect_of(low: u8) -> Indirect
 }
 
 fn address_of(low: u8) -> Address
-    ensures { λ r. ⌜ r ≡ addressOf low ⌝ }
+    ensures { λ r. ⌜ r ≡ addressModeOf low ⌝ }
 {
     if low < 128 {
         return Address::Direct(low);

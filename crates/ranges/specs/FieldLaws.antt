@@ -10,7 +10,7 @@ use Rattle.dma.specs.declared.NextArp.the-variants.{Same, To}
 use Rattle.dma.specs.declared.Address.the-variants as Mode
 use Rattle.instructions.specs.declared.Decoded.{Decoded}
 use Rattle.instructions.specs.declared.Decoded.the-variants.{Base, Published, Nothing}
-use Rattle.instructions.specs.Encoding.{Row, pick, both, has, means, first, addressOf, indirectOf, nextOf}
+use Rattle.instructions.specs.Encoding.{Row, pick, both, has, means, first, addressModeOf, indirectOf, nextOf}
 use Rattle.instructions.specs.Pages.{accumulatorPages, multiplierPages, auxiliaryPages, branchPages, transferPages, modePages, basePages, otherPages, pages}
 use Rattle.instructions.specs.Decode.{decodeOf}
 use Rattle.instructions.specs.Every.{both-left, both-right}
@@ -32,8 +32,8 @@ indirect-fits : (low : ℕ) → IndirectFits (indirectOf low)
 unfolding indirectOf
 indirect-fits low = next-fits low
 
-address-fits : (low : ℕ) → AddressFits (addressOf low)
-unfolding addressOf
+address-fits : (low : ℕ) → AddressFits (addressModeOf low)
+unfolding addressModeOf
 address-fits low = by (ltb low 128) refl
   where
     by : (t : Bool) → ltb low 128 ≡ t → AddressFits (pick t (Mode.Direct low) (Mode.Indirect (indirectOf low)))
@@ -54,7 +54,7 @@ joined (r ∷ a) b f g = f .0 and joined a b (f .1) g
 no-field : ℕ → Unit {0}
 no-field w = tt
 
-operand : (w : ℕ) → AddressFits (addressOf (w % 256))
+operand : (w : ℕ) → AddressFits (addressModeOf (w % 256))
 operand w = address-fits (w % 256)
 
 indirect : (w : ℕ) → IndirectFits (indirectOf (w % 256))

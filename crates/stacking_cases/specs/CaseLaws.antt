@@ -8,7 +8,7 @@ use Rattle.alu.specs.Products.{product, productWord, leftBy, rightBy, productSh
 use Rattle.alu.specs.Registers.{wrappedSum, wrappedDifference, reversed, reversedSum}
 use Rattle.machine.specs.Reset.{resetMachine}
 use Rattle.machine.specs.Range.{inRange}
-use Rattle.instructions.specs.Encoding.{lowFits, modificationOf, nextOf, indirectOf, addressOf}
+use Rattle.instructions.specs.Encoding.{lowFits, modificationOf, nextOf, indirectOf, addressModeOf}
 use Rattle.instructions.specs.Decode.{decodeOf}
 use Rattle.pages.specs.Traits.{traitsOf, multiplierTraits, modesTraits}
 use Rattle.pages.specs.Addressing.{moved, pointed, modified, addressed}
@@ -45,5 +45,5 @@ pub record Computed : Type 0 where
   pub one-changed-128 : shown (runWith 127 0x8001 1) ≡ 0 ∷ 130 ∷ 0x7FFF_FE00 ∷ 0 ∷ []
 
 pub computed : Computed
-unfolding signed low holds held settled carry noBorrow added subtracted product productWord leftBy rightBy productShift shiftedProduct productHigh productLow wrappedSum wrappedDifference reversed reversedSum resetMachine inRange lowFits modificationOf nextOf indirectOf addressOf decodeOf traitsOf multiplierTraits moved pointed modified addressed addressing.addressOf APAC tableAddress multiplierRule ruleOf followed destination dataRegion dataPresent inRom inProgramB0 programPresent memoriesFit portFits portSpent slicesFit windowOf programWord firstGiven accesses wrongPort sends addressAbove dataAbsent tableAbsent outputFull readWord wordsRead effectOf writeOf passedMachine passedWrite performed dataAfter outputAfter decodedAt secondAddress secondWord notRepeatable secondAbsent tableFor refusalOf pagePlan planOf stored stepOf modesTraits MAC RPTK modesRule checksOf runOf romWith worldWith runWith
+unfolding signed low holds held settled carry noBorrow added subtracted product productWord leftBy rightBy productShift shiftedProduct productHigh productLow wrappedSum wrappedDifference reversed reversedSum resetMachine inRange lowFits modificationOf nextOf indirectOf addressModeOf decodeOf traitsOf multiplierTraits moved pointed modified addressed addressing.addressOf APAC tableAddress multiplierRule ruleOf followed destination dataRegion dataPresent inRom inProgramB0 programPresent memoriesFit portFits portSpent slicesFit windowOf programWord firstGiven accesses wrongPort sends addressAbove dataAbsent tableAbsent outputFull readWord wordsRead effectOf writeOf passedMachine passedWrite performed dataAfter outputAfter decodedAt secondAddress secondWord notRepeatable secondAbsent tableFor refusalOf pagePlan planOf stored stepOf modesTraits MAC RPTK modesRule checksOf runOf romWith worldWith runWith
 computed = record { all-127 = refl; all-128-held = refl; all-128-turned-over = refl; all-128-before-the-last = refl; one-changed-128 = refl }

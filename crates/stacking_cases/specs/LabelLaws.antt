@@ -9,7 +9,7 @@ use Rattle.machine.specs.Reset.{resetMachine}
 use Rattle.answers.specs.declared.Answer.the-variants.{Done}
 use Rattle.answers.specs.Numbers.{isDone}
 use Rattle.answers.specs.NumberLaws.{number-injective}
-use Rattle.instructions.specs.Encoding.{lowFits, modificationOf, nextOf, indirectOf, addressOf}
+use Rattle.instructions.specs.Encoding.{lowFits, modificationOf, nextOf, indirectOf, addressModeOf}
 use Rattle.instructions.specs.Decode.{decodeOf}
 use Rattle.board.specs.Regions.{inRom, inProgramB0}
 use Rattle.board.specs.Windows.{windowOf, programWord}
@@ -28,7 +28,7 @@ use Rattle.stacking.specs.Label.{Overflows, MostFrames}
 
 -- 128 frames of -32768 alone; the run is that of the cases
 pub overflows-128 : Overflows 127
-unfolding wordAhead lastWorld allSized resetMachine lowFits modificationOf nextOf indirectOf addressOf decodeOf inRom inProgramB0 windowOf programWord decodedAt wrappedSum romWith worldWith runWith
+unfolding wordAhead lastWorld allSized resetMachine lowFits modificationOf nextOf indirectOf addressModeOf decodeOf inRom inProgramB0 windowOf programWord decodedAt wrappedSum romWith worldWith runWith
 overflows-128 =
     let held = computed .all-128-held in
     record {
