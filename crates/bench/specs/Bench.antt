@@ -28,9 +28,9 @@ use Rattle.steps.specs.Refusals.{accesses, wrongPort, sends, addressAbove, data
 use Rattle.steps.specs.Stores.{writeOf, dataAfter, outputAfter}
 use Rattle.steps.specs.Pass.{readWord, wordsRead, effectOf, passedMachine, passedWrite, performed}
 use Rattle.steps.specs.Table.{decodedAt, secondAddress, secondWord, notRepeatable, secondAbsent, tableFor, refusalOf}
-use Rattle.steps.specs.Step.{pagePlan, planOf, stored, stepOf}
+use Rattle.steps.specs.Step.{pagePlan, planOf, afterStore, stepOf}
 use Rattle.bench.specs.Cases.{cases, found, expected}
 
 pub bench : found cases ≡ expected cases
-unfolding signed low holds held settled carry noBorrow added subtracted product productWord leftBy rightBy productShift shiftedProduct productHigh productLow wrappedSum wrappedDifference reversed reversedSum resetMachine inRange lowFits modificationOf nextOf indirectOf addressModeOf decodeOf traitsOf accumulatorTraits multiplierTraits auxiliaryTraits moved pointed modified addressed addressing.addressOf ADDK SUBK accumulatorRule PAC APAC SPAC MPY SQRA SQRS SPL SPH tableAddress multiplierRule MAR auxiliaryRule ruleOf followed destination dataRegion dataPresent inRom inProgramB0 programPresent memoriesFit portFits portSpent slicesFit windowOf programWord firstGiven accesses wrongPort sends addressAbove dataAbsent tableAbsent outputFull readWord wordsRead effectOf writeOf passedMachine passedWrite performed dataAfter outputAfter decodedAt secondAddress secondWord notRepeatable secondAbsent tableFor refusalOf pagePlan planOf stored stepOf
+unfolding signed low holds held settled carry noBorrow added subtracted product productWord leftBy rightBy productShift shiftedProduct productHigh productLow wrappedSum wrappedDifference reversed reversedSum resetMachine inRange lowFits modificationOf nextOf indirectOf addressModeOf decodeOf traitsOf accumulatorTraits multiplierTraits auxiliaryTraits moved pointed modified addressed addressing.addressOf ADDK SUBK accumulatorRule PAC APAC SPAC MPY SQRA SQRS SPL SPH tableAddress multiplierRule MAR auxiliaryRule ruleOf followed destination dataRegion dataPresent inRom inProgramB0 programPresent memoriesFit portFits portSpent slicesFit windowOf programWord firstGiven accesses wrongPort sends addressAbove dataAbsent tableAbsent outputFull readWord wordsRead effectOf writeOf passedMachine passedWrite performed dataAfter outputAfter decodedAt secondAddress secondWord notRepeatable secondAbsent tableFor refusalOf pagePlan planOf afterStore stepOf
 bench = refl

@@ -18,7 +18,7 @@ use Rattle.steps.specs.Pass.{refused}
 use Rattle.steps.specs.StoreLaws.{WriteFits}
 use Rattle.steps.specs.World.{World, Outcome, RunOutcome}
 use Rattle.steps.specs.Table.{checksOf}
-use Rattle.steps.specs.Step.{planOf, stored, stepOf, runOf, oneMore}
+use Rattle.steps.specs.Step.{planOf, afterStore, stepOf, runOf, oneMore}
 use Rattle.steps.specs.Stages.{fetchPlan, stages}
 use Rattle.kinds.specs.Table.{kindTable}
 use Rattle.fetching.specs.ByTable.{fetchPlanBy}
@@ -81,7 +81,7 @@ module _ (rom input : List ℕ) where
   checksIn w = checksOf rom (w .«data») input (length (w .output)) (w .m)
 
   pub refused-step : (w : World) → isDone (checksIn w) ≡ false → stepOf rom input w ≡ record { world = w; answer = checksIn w }
-  unfolding stepOf stored dataAfter outputAfter
+  unfolding stepOf afterStore dataAfter outputAfter
   refused-step w e = rw (unchecked-plan rom (w .«data») input (length (w .output)) (w .m) e) refl
 
   pub refused-run : (budget : ℕ) (w : World) → isDone (checksIn w) ≡ false → runOf rom input budget w ≡ record { world = w; steps = 0; answer = checksIn w }

@@ -59,7 +59,7 @@ use Rattle.steps.specs.Stores.{dataAfter, outputAfter}
 use Rattle.steps.specs.Pass.{wordsRead, effectOf, passedMachine, passedWrite, performed}
 use Rattle.steps.specs.World.{World}
 use Rattle.steps.specs.Table.{decodedAt, secondAddress, secondWord, notRepeatable, secondAbsent, tableFor}
-use Rattle.steps.specs.Step.{stored, stepOf}
+use Rattle.steps.specs.Step.{afterStore, stepOf}
 use Rattle.laws.specs.Laws.{rowsOf, NoneHolds, recounted, workOf, effectAt, writeAt, PassWorks, EveryPassWorks}
 use Rattle.laws.specs.Steps.{_and_, row-not, step-world, row-given}
 
@@ -302,7 +302,7 @@ module _ (rom input : List ℕ) (w : World) (i : Instruction) (d : decodedAt rom
         «data» = dataAfter (writeAt rom input w i) (w .«data»);
         output = outputAfter (writeAt rom input w i) (w .output);
       }
-  unfolding stored performed secondWord secondAddress
+  unfolding afterStore performed secondWord secondAddress
   work-recounted =
       rw (
         step-world rom input (recounted w n) i decoded-recounted done-recounted,
@@ -316,7 +316,7 @@ module _ (rom input : List ℕ) (w : World) (i : Instruction) (d : decodedAt rom
   -- the machine after the step, by the RPTC before it
   machine-after : (n : ℕ) → w .m .rptc ≡ n
       → stepOf rom input w .world .m ≡ followed (placed (effectAt rom input w i .m) n (w .m .pc)) Jump.Past (traitsOf i .words) true
-  unfolding stored performed
+  unfolding afterStore performed
   machine-after n f =
       rw (← f, step-world rom input w i d e)
       (passed-with i h (secondWord i rom (w .«data») (w .m)) rom (w .«data») input (w .m) (w .m .rptc))
@@ -326,7 +326,7 @@ module _ (rom input : List ℕ) (w : World) (i : Instruction) (d : decodedAt rom
   in-bounds = ranged (w .m) (not-false _ (row-not (rowsOf rom input w) 0 (row-given rom input w .done-only e))) .rptc
 
   pass-works : PassWorks rom input w i
-  unfolding stored performed
+  unfolding afterStore performed
   pass-works = record {
     goes-on = λ n f. machine-after (suc n) f ∙ follows-on (effectAt rom input w i .m) n (w .m .pc) (traitsOf i .words);
     ends = λ f. machine-after 0 f ∙ follows-last (effectAt rom input w i .m) (w .m .pc) (traitsOf i .words);

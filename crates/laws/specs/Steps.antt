@@ -21,7 +21,7 @@ use Rattle.steps.specs.Stores.{dataAfter, outputAfter}
 use Rattle.steps.specs.Pass.{performed, refused}
 use Rattle.steps.specs.World.{World}
 use Rattle.steps.specs.Table.{decodedAt, secondWord, tableFor, refusalOf, checksOf}
-use Rattle.steps.specs.Step.{pagePlan, planOf, stored, stepOf}
+use Rattle.steps.specs.Step.{pagePlan, planOf, afterStore, stepOf}
 use Rattle.laws.specs.Laws.{RefusedUnchanged, AnswersOfAStep, rowsOf, NoneHolds, GivenBy, RowGiven, PresenceBeforeEncoding, PortBeforeAddress}
 
 -- facts one after another
@@ -51,18 +51,18 @@ step-answer rom input w =
     (page-done (decodedAt rom (w .«data») (w .m)) rom (w .«data») input (w .m))
 
 pub refused-unchanged : RefusedUnchanged
-unfolding stepOf planOf refusalOf stored dataAfter outputAfter
+unfolding stepOf planOf refusalOf afterStore dataAfter outputAfter
 refused-unchanged rom input w h =
     let e : isDone (firstGiven (rowsOf rom input w)) ≡ false = ap isDone (sym (step-answer rom input w)) ∙ h in
     rw e
 
 -- a step that is done is what the page's rule makes of the world
 pub step-world : (rom input : List ℕ) (w : World) (i : Instruction) → decodedAt rom (w .«data») (w .m) ≡ Base i → stepOf rom input w .answer ≡ Done
-    → stepOf rom input w .world ≡ stored (performed (traitsOf i) i (secondWord i rom (w .«data») (w .m)) rom (w .«data») input (w .m)) w
+    → stepOf rom input w .world ≡ afterStore (performed (traitsOf i) i (secondWord i rom (w .«data») (w .m)) rom (w .«data») input (w .m)) w
 unfolding stepOf planOf refusalOf pagePlan
 step-world rom input w i d e =
     let f : isDone (firstGiven (rowsOf rom input w)) ≡ true = ap isDone (sym (step-answer rom input w) ∙ e) in
-    rw f (ap (λ (x : Decoded). stored (pagePlan x rom (w .«data») input (w .m)) w) d)
+    rw f (ap (λ (x : Decoded). afterStore (pagePlan x rom (w .«data») input (w .m)) w) d)
 
 -- ---- numbers
 

@@ -34,7 +34,7 @@ use Rattle.steps.specs.Stores.{writeOf, dataAfter, outputAfter}
 use Rattle.steps.specs.Pass.{wordsRead, effectOf, passedMachine, passedWrite, performed}
 use Rattle.steps.specs.World.{World}
 use Rattle.steps.specs.Table.{decodedAt, secondWord, tableFor}
-use Rattle.steps.specs.Step.{stored, stepOf}
+use Rattle.steps.specs.Step.{afterStore, stepOf}
 use Rattle.laws.specs.Laws.{NoneHolds}
 use Rattle.laws.specs.Steps.{_and_, row-not, step-world, refused-unchanged, row-given}
 use Rattle.laws.specs.Runs.{by-first}
@@ -209,7 +209,7 @@ room-left t o m h e = leb-false _ _ (room-where (sends (t .port)) (leb o (m .«o
 module _ (rom input : List ℕ) (w : World) (k : WorldInRange rom input w) (e : stepOf rom input w .answer ≡ Done) where
   base-in-range : (x : Instruction) → decodedAt rom (w .«data») (w .m) ≡ Base x → FieldsFit x → outputFull (traitsOf x) (length (w .output)) (w .m) ≡ false
       → WorldInRange rom input (stepOf rom input w .world)
-  unfolding stored performed
+  unfolding afterStore performed
   base-in-range x c g full =
       let s = slices-fit (w .m) rom (w .«data») input (length (w .output)) (k .slices-fit) in
       let room = room-left (traitsOf x) (length (w .output)) (w .m) full in

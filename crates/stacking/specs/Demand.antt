@@ -23,7 +23,7 @@ use Rattle.pages.specs.Rules.{ruleOf}
 use Rattle.steps.specs.Pass.{effectOf, passedMachine, performed}
 use Rattle.steps.specs.World.{World}
 use Rattle.steps.specs.Table.{decodedAt, secondWord}
-use Rattle.steps.specs.Step.{stored, stepOf, runOf}
+use Rattle.steps.specs.Step.{afterStore, stepOf, runOf}
 use Rattle.frames.specs.Frames.{Pair, Accumulation, fromZero, productAdded, passed, stacked, Words}
 use Rattle.frames.specs.FrameLaws.{passes-keep-ov, below-128, at-128}
 use Rattle.stacking.specs.Stacking.{pairsRead, wordAhead, Stacks, lastWorld, words, StaysZero, Holds, HoldsAt128}
@@ -32,8 +32,8 @@ use Rattle.stacking.specs.Passes.{plus, plus-is, Began, began, after, ru
 
 -- the final product add
 apac-page : (rom input : List ℕ) (u : World) (second : ℕ)
-    → accumulationOf (stored (performed (traitsOf (Family.Multiplier Apac)) (Family.Multiplier Apac) second rom (u .«data») input (u .m)) u .m) ≡ productAdded (u .m .pm) (u .m .ovm) (accumulationOf (u .m))
-unfolding stored performed passedMachine effectOf traitsOf multiplierTraits ruleOf multiplierRule
+    → accumulationOf (afterStore (performed (traitsOf (Family.Multiplier Apac)) (Family.Multiplier Apac) second rom (u .«data») input (u .m)) u .m) ≡ productAdded (u .m .pm) (u .m .ovm) (accumulationOf (u .m))
+unfolding afterStore performed passedMachine effectOf traitsOf multiplierTraits ruleOf multiplierRule
 apac-page rom input u second =
     followed-follows (APAC (addressed Operand.Nothing (u .m))) Past 1 true .accumulation
     ∙ apac-works (u .m) (addressed Operand.Nothing (u .m)) (operand-alike Operand.Nothing (u .m))

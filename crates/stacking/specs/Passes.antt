@@ -31,7 +31,7 @@ use Rattle.steps.specs.Stores.{writeOf, dataAfter, outputAfter}
 use Rattle.steps.specs.Pass.{readWord, wordsRead, effectOf, passedMachine, passedWrite, performed}
 use Rattle.steps.specs.World.{World}
 use Rattle.steps.specs.Table.{decodedAt, secondWord}
-use Rattle.steps.specs.Step.{stored, stepOf, runOf}
+use Rattle.steps.specs.Step.{afterStore, stepOf, runOf}
 use Rattle.frames.specs.Frames.{Pair, accumulated, passed, Every, Words}
 use Rattle.stacking.specs.Stacking.{pairFor, pairAt, pairsRead, Repeats, by-rptk, by-rpt, Accumulates, by-mac, by-macd, Sized}
 use Rattle.stacking.specs.Passing.{step-does, runs-on, run-goes-on, run-ended, Alike, operand-alike, accumulationOf, followed-follows, again, goes-past, mac-works, move-keeps}
@@ -67,8 +67,8 @@ pub record Began (w v : World) (k : ℕ) : Type 0 where
   pub same-data : v .«data» ≡ w .«data»
 
 module _ (rom input : List ℕ) (w : World) where
-  repeats : (r : Instruction) (k : ℕ) → Repeats w r k → Began w (stored (performed (traitsOf r) r (secondWord r rom (w .«data») (w .m)) rom (w .«data») input (w .m)) w) k
-  unfolding stored performed passedMachine passedWrite effectOf traitsOf modesTraits ruleOf modesRule RPT RPTK followed destination writeOf dataAfter wordsRead readWord accumulationOf
+  repeats : (r : Instruction) (k : ℕ) → Repeats w r k → Began w (afterStore (performed (traitsOf r) r (secondWord r rom (w .«data») (w .m)) rom (w .«data») input (w .m)) w) k
+  unfolding afterStore performed passedMachine passedWrite effectOf traitsOf modesTraits ruleOf modesRule RPT RPTK followed destination writeOf dataAfter wordsRead readWord accumulationOf
   repeats _ _ (by-rptk k) =
       let a = operand-alike (traitsOf (Family.Modes (Rptk k)) .operand) (w .m) in
       record { accumulation = rw (a .acc, a .p, a .ov); ovm = a .ovm; pm = a .pm; cnf = a .cnf; rptc = refl; pc = rw (a .pc); same-data = refl }
@@ -121,8 +121,8 @@ module _ (rom : List ℕ) (cnf a word : ℕ) (d : List ℕ) (b : word < 2 ^ 16) 
 
 module _ (rom input : List ℕ) (w : World) (data-sized : Sized (w .«data»)) where
   goes : (i : Instruction) → Accumulates i
-      → Went rom w (stored (performed (traitsOf i) i (secondWord i rom (w .«data») (w .m)) rom (w .«data») input (w .m)) w) (pairFor (Base i) rom input w)
-  unfolding stored performed passedMachine passedWrite effectOf traitsOf multiplierTraits ruleOf multiplierRule MACD writeOf dataAfter outputAfter wordsRead readWord pairFor
+      → Went rom w (afterStore (performed (traitsOf i) i (secondWord i rom (w .«data») (w .m)) rom (w .«data») input (w .m)) w) (pairFor (Base i) rom input w)
+  unfolding afterStore performed passedMachine passedWrite effectOf traitsOf multiplierTraits ruleOf multiplierRule MACD writeOf dataAfter outputAfter wordsRead readWord pairFor
   goes _ (by-mac a) =
       went rom w (addressed (At a) (w .m)) (operand-alike (At a) (w .m)) _ _ _ (w .«data») _ (λ x. refl) (λ s. s)
   goes _ (by-macd a) =

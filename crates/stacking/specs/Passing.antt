@@ -36,7 +36,7 @@ use Rattle.steps.specs.declared.Plan.{Plan}
 use Rattle.steps.specs.Pass.{performed, refused}
 use Rattle.steps.specs.World.{World}
 use Rattle.steps.specs.Table.{decodedAt, secondWord, refusalOf}
-use Rattle.steps.specs.Step.{pagePlan, planOf, stored, stepOf, runOf}
+use Rattle.steps.specs.Step.{pagePlan, planOf, afterStore, stepOf, runOf}
 use Rattle.frames.specs.Frames.{Accumulation, productAdded, accumulated}
 
 -- ---- a step that is done does what its page says
@@ -52,9 +52,9 @@ module _ (rom input : List ℕ) (w : World) (i : Instruction) (is : decodedAt ro
       by-test (isDone (refusalOf rom (w .«data») input (length (w .output)) (w .m))) i _ _ done refl
       ∙ ap (λ (d : Decoded). pagePlan d rom (w .«data») input (w .m)) is
 
-  pub step-does : stepOf rom input w .world ≡ stored (performed (traitsOf i) i (secondWord i rom (w .«data») (w .m)) rom (w .«data») input (w .m)) w
+  pub step-does : stepOf rom input w .world ≡ afterStore (performed (traitsOf i) i (secondWord i rom (w .«data») (w .m)) rom (w .«data») input (w .m)) w
   unfolding stepOf
-  step-does = ap (λ (p : Plan). stored p w) plan-done
+  step-does = ap (λ (p : Plan). afterStore p w) plan-done
 
 -- ---- a run that is not refused, step by step
 pub record RunsOn (rom input : List ℕ) (n : ℕ) (w : World) : Type 0 where

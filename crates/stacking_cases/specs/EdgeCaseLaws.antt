@@ -32,7 +32,7 @@ use Rattle.steps.specs.Refusals.{accesses, wrongPort, sends, addressAbove, data
 use Rattle.steps.specs.Stores.{writeOf, dataAfter, outputAfter}
 use Rattle.steps.specs.Pass.{readWord, wordsRead, effectOf, passedMachine, passedWrite, performed}
 use Rattle.steps.specs.Table.{checksOf, decodedAt, secondAddress, secondWord, notRepeatable, secondAbsent, tableFor, refusalOf}
-use Rattle.steps.specs.Step.{pagePlan, planOf, stored, stepOf, runOf}
+use Rattle.steps.specs.Step.{pagePlan, planOf, afterStore, stepOf, runOf}
 use Rattle.instructions.specs.declared.Instruction.the-variants as Family
 use Rattle.dma.specs.declared.Address.{Address}
 use Rattle.dma.specs.declared.Address.the-variants.{Direct, Indirect}
@@ -47,7 +47,7 @@ use Rattle.stacking_cases.specs.EdgeCase.{edgeRom, edgeData, edgeMachine
 use Rattle.stacking_cases.specs.SizedLaws.{allSized, sized-by}
 
 pub edge-case : EdgeCase
-unfolding signed low holds held settled carry added product productWord leftBy rightBy productShift shiftedProduct wrappedSum resetMachine inRange lowFits modificationOf nextOf indirectOf addressModeOf decodeOf traitsOf multiplierTraits moved pointed modified addressed addressing.addressOf APAC tableAddress multiplierRule ruleOf followed destination dataRegion dataPresent onChip moveAllowed inRom inProgramB0 programPresent memoriesFit portFits portSpent slicesFit windowOf programWord firstGiven accesses wrongPort sends addressAbove dataAbsent tableAbsent outputFull readWord wordsRead effectOf writeOf passedMachine passedWrite performed dataAfter outputAfter decodedAt secondAddress secondWord notRepeatable secondAbsent tableFor refusalOf pagePlan planOf stored stepOf modesTraits MAC MACD RPT modesRule checksOf runOf pairFor pairAt pairsRead words exactSum edgeRom edgeData edgeMachine edgeWorld edgeRun
+unfolding signed low holds held settled carry added product productWord leftBy rightBy productShift shiftedProduct wrappedSum resetMachine inRange lowFits modificationOf nextOf indirectOf addressModeOf decodeOf traitsOf multiplierTraits moved pointed modified addressed addressing.addressOf APAC tableAddress multiplierRule ruleOf followed destination dataRegion dataPresent onChip moveAllowed inRom inProgramB0 programPresent memoriesFit portFits portSpent slicesFit windowOf programWord firstGiven accesses wrongPort sends addressAbove dataAbsent tableAbsent outputFull readWord wordsRead effectOf writeOf passedMachine passedWrite performed dataAfter outputAfter decodedAt secondAddress secondWord notRepeatable secondAbsent tableFor refusalOf pagePlan planOf afterStore stepOf modesTraits MAC MACD RPT modesRule checksOf runOf pairFor pairAt pairsRead words exactSum edgeRom edgeData edgeMachine edgeWorld edgeRun
 edge-case = record { comes-to = refl; leaves = refl; reads = refl; exact = refl }
 
 -- *+

@@ -29,12 +29,12 @@ planOf rom «data» input outputLength m =
     (refused m (refusalOf rom «data» input outputLength m))
 
 -- the world after the one store of a plan
-unfoldable pub stored : Plan → World → World
-stored plan w = record { m = plan .m; «data» = dataAfter (plan .write) (w .«data»); output = outputAfter (plan .write) (w .output) }
+unfoldable pub afterStore : Plan → World → World
+afterStore plan w = record { m = plan .m; «data» = dataAfter (plan .write) (w .«data»); output = outputAfter (plan .write) (w .output) }
 
 unfoldable pub stepOf : List ℕ → List ℕ → World → Outcome
 stepOf rom input w = record {
-  world = stored (planOf rom (w .«data») input (length (w .output)) (w .m)) w;
+  world = afterStore (planOf rom (w .«data») input (length (w .output)) (w .m)) w;
   answer = planOf rom (w .«data») input (length (w .output)) (w .m) .answer;
 }
 

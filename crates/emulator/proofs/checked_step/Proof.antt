@@ -1,4 +1,4 @@
-use Rattle.steps.specs.Step.{stepOf, stored}
+use Rattle.steps.specs.Step.{stepOf, afterStore}
 use Rattle.emulator.specs.RunLaws.{words-fit, table-plan, table-fits}
 use borrow.Author.Needs.{needs}
 use Rattle.emulator.proofs.checked_step.Statement.{statement}
@@ -22,7 +22,7 @@ same-length-2 : tie.Need-same-length-2
 same-length-2 c = search needs
 
 returns : tie.Need-returns
-unfolding stepOf stored
+unfolding stepOf afterStore
 returns c =
     rw (
       ← table-plan _ _ _ _ _ _ (c .before .before .before .before .before .before .before .before .before .before .before .before .before .before .before .pre .0)
