@@ -12,7 +12,7 @@ use Rattle.machine.specs.Range.{inRange}
 use Rattle.machine.specs.RangeLaws.{ranged}
 use Rattle.ranges.specs.Ranges.{WordSized}
 use Rattle.ranges.specs.Cells.{word-at}
-use Rattle.cells.specs.Cells.{firstCells, pointerCells, cursorCells, cellsOf, wordAt, eightAt, machineOf}
+use Rattle.cells.specs.Cells.{firstCells, pointerCells, cursorCells, cellsOf, cellWordAt, eightAt, machineOf}
 use Rattle.cells.specs.CheckLaws.{machine-of-34}
 use Rattle.cell_reading.specs.ReadLaws.{machine-read}
 use Rattle.cell_storing.specs.StoreLaws.{cells-length}
@@ -68,7 +68,7 @@ held-small e below = rw e (sym (mod-eq-of-lt below))
 -- the words of the cells from a place on
 wordsFrom : ℕ → ℕ → List ℕ → List ℕ
 wordsFrom zero i cells = []
-wordsFrom (suc n) i cells = wordAt cells i ∷ wordsFrom n (suc i) cells
+wordsFrom (suc n) i cells = cellWordAt cells i ∷ wordsFrom n (suc i) cells
 
 module _ (cells l : List ℕ) (from : ℕ) (e : (k : ℕ) → k < 8 → getD cells (from + k) 0 ≡ getD l k 0) (f : (k : ℕ) → getD l k 0 < 65536) where
   elements-words : (n i : ℕ) → i + n ≤ 8 → elements n i l ≡ wordsFrom n (from + i) cells
@@ -76,7 +76,7 @@ module _ (cells l : List ℕ) (from : ℕ) (e : (k : ℕ) → k < 8 → getD cel
   elements-words zero i h = refl
   elements-words (suc n) i h =
       let next : from + suc i ≡ suc (from + i) = omega arith in
-      rw (held-word (e i (omega arith)) (f i), ← next) (ap (λ (rest : List ℕ). wordAt cells (from + i) ∷ rest) (elements-words n (suc i) (omega arith)))
+      rw (held-word (e i (omega arith)) (f i), ← next) (ap (λ (rest : List ℕ). cellWordAt cells (from + i) ∷ rest) (elements-words n (suc i) (omega arith)))
 
 eight-words : (cells l : List ℕ) (from : ℕ) → length l ≡ 8 → ((k : ℕ) → k < 8 → getD cells (from + k) 0 ≡ getD l k 0) → ((k : ℕ) → getD l k 0 < 65536)
     → l ≡ wordsFrom 8 (from + 0) cells

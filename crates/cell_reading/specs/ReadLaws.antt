@@ -3,29 +3,29 @@ use mathlib.Core.Path.{_≡_}
 use mathlib.Core.List.{List}
 use Prim.Native.Nat.{ℕ}
 use lib.ListN.{getD}
-use Rattle.cells.specs.Cells.{wordAt, smallAt, eightAt, machineFrom}
+use Rattle.cells.specs.Cells.{cellWordAt, smallAt, eightAt, machineFrom}
 
 pub machine-read : (cells : List ℕ) {stack ar : List ℕ} {acc p t pc pfc arp arb dp pm ov ovm sxm c cnf mid rptc reads sends : ℕ}
     → stack ≡ eightAt cells 24
     → acc ≡ getD cells 0 0
     → p ≡ getD cells 1 0
-    → t ≡ wordAt cells 2
-    → pc ≡ wordAt cells 3
-    → pfc ≡ wordAt cells 4
+    → t ≡ cellWordAt cells 2
+    → pc ≡ cellWordAt cells 3
+    → pfc ≡ cellWordAt cells 4
     → ar ≡ eightAt cells 5
     → arp ≡ smallAt cells 13
     → arb ≡ smallAt cells 14
-    → dp ≡ wordAt cells 15
+    → dp ≡ cellWordAt cells 15
     → pm ≡ smallAt cells 16
     → ov ≡ smallAt cells 17
     → ovm ≡ smallAt cells 18
     → sxm ≡ smallAt cells 19
     → c ≡ smallAt cells 20
     → cnf ≡ smallAt cells 21
-    → mid ≡ wordAt cells 22
-    → rptc ≡ wordAt cells 23
-    → reads ≡ wordAt cells 32
-    → sends ≡ wordAt cells 33
+    → mid ≡ cellWordAt cells 22
+    → rptc ≡ cellWordAt cells 23
+    → reads ≡ cellWordAt cells 32
+    → sends ≡ cellWordAt cells 33
     → record {
       stack = record { words = stack };
       acc = acc;

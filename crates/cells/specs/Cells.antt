@@ -36,8 +36,8 @@ unfoldable pub cellsOf : Machine → List ℕ
 cellsOf m = firstCells m ++ (m .ar ++ (pointerCells m ++ (m .stack .words ++ cursorCells m)))
 
 -- the number in a cell, as a cell of 16 bits or of 8 holds it; a number that passes check 1 is held as it is
-abbrev pub wordAt : List ℕ → ℕ → ℕ
-wordAt cells i = getD cells i 0 % 65536
+abbrev pub cellWordAt : List ℕ → ℕ → ℕ
+cellWordAt cells i = getD cells i 0 % 65536
 
 abbrev pub smallAt : List ℕ → ℕ → ℕ
 smallAt cells i = getD cells i 0 % 256
@@ -45,14 +45,14 @@ smallAt cells i = getD cells i 0 % 256
 -- eight words from a place on
 unfoldable pub eightAt : List ℕ → ℕ → List ℕ
 eightAt cells i =
-    wordAt cells i
-    ∷ wordAt cells (i + 1)
-    ∷ wordAt cells (i + 2)
-    ∷ wordAt cells (i + 3)
-    ∷ wordAt cells (i + 4)
-    ∷ wordAt cells (i + 5)
-    ∷ wordAt cells (i + 6)
-    ∷ wordAt cells (i + 7)
+    cellWordAt cells i
+    ∷ cellWordAt cells (i + 1)
+    ∷ cellWordAt cells (i + 2)
+    ∷ cellWordAt cells (i + 3)
+    ∷ cellWordAt cells (i + 4)
+    ∷ cellWordAt cells (i + 5)
+    ∷ cellWordAt cells (i + 6)
+    ∷ cellWordAt cells (i + 7)
     ∷ []
 
 -- the machine of 34 numbers
@@ -62,23 +62,23 @@ machineFrom cells =
       stack = record { words = eightAt cells 24 };
       acc = getD cells 0 0;
       p = getD cells 1 0;
-      t = wordAt cells 2;
-      pc = wordAt cells 3;
-      pfc = wordAt cells 4;
+      t = cellWordAt cells 2;
+      pc = cellWordAt cells 3;
+      pfc = cellWordAt cells 4;
       ar = eightAt cells 5;
       arp = smallAt cells 13;
       arb = smallAt cells 14;
-      dp = wordAt cells 15;
+      dp = cellWordAt cells 15;
       pm = smallAt cells 16;
       ov = smallAt cells 17;
       ovm = smallAt cells 18;
       sxm = smallAt cells 19;
       c = smallAt cells 20;
       cnf = smallAt cells 21;
-      mid = wordAt cells 22;
-      rptc = wordAt cells 23;
-      «input_cursor» = wordAt cells 32;
-      «output_cursor» = wordAt cells 33;
+      mid = cellWordAt cells 22;
+      rptc = cellWordAt cells 23;
+      «input_cursor» = cellWordAt cells 32;
+      «output_cursor» = cellWordAt cells 33;
     }
 
 -- the machine of a slice of cells; one of another length is refused before any machine is asked for, and reset stands in
