@@ -13,7 +13,7 @@ use Rattle.answers.specs.Numbers.{numberOf, isDone}
 use Rattle.answers.specs.NumberLaws.{done-is}
 use Rattle.board.specs.SliceLaws.{slices-fit}
 use Rattle.board.specs.Windows.{wordsSent, wordsSentAnswer}
-use Rattle.runfile.specs.Files.{readAnswer, readContents, withinLimits}
+use Rattle.runfile.specs.Files.{readAnswer, readContents, contentsFit}
 use Rattle.runfile.specs.Facts.{Below}
 use Rattle.runfile.specs.FileLaws.{counts-facts}
 use Rattle.round_trips.specs.RoundTrip.{read-within, read-sixteen-bits}
@@ -59,7 +59,7 @@ run-line-most rom input r k h =
 
 module _ (bytes : List ℕ) (below : Below 256 bytes) where
   accepted-most : readAnswer bytes ≡ Done → length (runLine (replayRun (readContents bytes))) ≤ longestLine
-  unfolding replayRun withinLimits
+  unfolding replayRun contentsFit
   accepted-most done =
       let c = readContents bytes in
       let bits = read-sixteen-bits bytes below done in

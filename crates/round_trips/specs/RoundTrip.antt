@@ -10,7 +10,7 @@ use borrow.Author.Tests.{le-leb}
 use Rattle.answers.specs.declared.Answer.the-variants.{Done}
 use Rattle.answers.specs.Numbers.{isDone}
 use Rattle.runfile.specs.declared.numbers.EightNumbers.{EightNumbers}
-use Rattle.runfile.specs.Files.{Contents, headWords, fileOf, fileLength, withinLimits, wordsAt, numbersOf, readAnswer, readContents, sectionsOf}
+use Rattle.runfile.specs.Files.{Contents, headWords, fileOf, fileLength, contentsFit, wordsAt, numbersOf, readAnswer, readContents, sectionsOf}
 use Rattle.writing.specs.Writing.{writeAnswer, written}
 use Rattle.runfile.specs.Facts.{Below, Accepted, SixteenBits, FileOfSome}
 use Rattle.runfile.specs.WordLaws.{words-length, words-add, words-below, word-below, word-bytes, below-none, below-cons, below-append, bytes-below, words-bytes, bytes-words}
@@ -71,9 +71,9 @@ module _ (c : Contents) where
       in
       simp (file-numbers, p, d, i)
 
-  module _ (within : withinLimits c ≡ true) where
+  module _ (within : contentsFit c ≡ true) where
     file-accepted : Accepted (fileOf c)
-    unfolding withinLimits fileLength
+    unfolding contentsFit fileLength
     file-accepted =
         let counts = counts-facts _ _ _ within in
         let size = file-length c in
@@ -92,7 +92,7 @@ module _ (c : Contents) where
         (done, read-done (fileOf c) (ap isDone done) ∙ file-sections)
 
     head-below : c .budget < 65536 → Below 65536 (headWords c)
-    unfolding withinLimits headWords
+    unfolding contentsFit headWords
     head-below h =
         let counts = counts-facts _ _ _ within in
         below-cons (omega arith)
@@ -121,7 +121,7 @@ module _ (c : Contents) where
       rw (h, take-at (fileOf c) (drop (length (fileOf c)) bytes) (length (fileOf c)) refl) (file-read (w .0))
 
 -- No two contents within the limits have the same file.
-pub file-injective : (c d : Contents) → withinLimits c ≡ true → withinLimits d ≡ true → fileOf c ≡ fileOf d → c ≡ d
+pub file-injective : (c d : Contents) → contentsFit c ≡ true → contentsFit d ≡ true → fileOf c ≡ fileOf d → c ≡ d
 file-injective c d hc hd e = sym (file-read c hc .1) ∙ ap readContents e ∙ file-read d hd .1
 
 -- ---- what is read is written back
@@ -174,8 +174,8 @@ module _ (bytes : List ℕ) where
             budget = word-below bytes below 14;
           }
 
-      sections-within : withinLimits (sectionsOf bytes) ≡ true
-      unfolding withinLimits sectionsOf
+      sections-within : contentsFit (sectionsOf bytes) ≡ true
+      unfolding contentsFit sectionsOf
       sections-within = simp words-length (counts-kept _ _ _ (a .rules .counts))
 
   module _ (below : Below 256 bytes) (done : readAnswer bytes ≡ Done) where
@@ -186,7 +186,7 @@ module _ (bytes : List ℕ) where
     pub read-file : fileOf (readContents bytes) ≡ bytes
     read-file = rw (read-done bytes (ap isDone done)) (file-again facts below)
 
-    pub read-within : withinLimits (readContents bytes) ≡ true
+    pub read-within : contentsFit (readContents bytes) ≡ true
     read-within = rw (read-done bytes (ap isDone done)) (sections-within facts below)
 
     pub read-sixteen-bits : SixteenBits (readContents bytes)

@@ -5,7 +5,7 @@ use mathlib.Core.List.{List}
 use Prim.Native.Nat.{ℕ, _+_, _*_, _≤_, _<_}
 use lib.ListN.{length, getD}
 use Rattle.runfile.specs.declared.numbers.EightNumbers.{EightNumbers}
-use Rattle.runfile.specs.Files.{Contents, fileOf, withinLimits, numbersOf}
+use Rattle.runfile.specs.Files.{Contents, fileOf, contentsFit, numbersOf}
 
 -- each number of a list is below a bound: bytes below 256, words below 65,536
 pub record Below (bound : ℕ) (l : List ℕ) : Type 0 where
@@ -40,6 +40,6 @@ pub record SixteenBits (c : Contents) : Type 0 where
 -- the bytes are the file of some contents
 pub record FileOfSome (bytes : List ℕ) : Type 0 where
   pub contents : Contents
-  pub within : withinLimits contents ≡ true
+  pub within : contentsFit contents ≡ true
   pub sixteen-bits : SixteenBits contents
   pub same-bytes : fileOf contents ≡ bytes

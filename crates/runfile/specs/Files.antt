@@ -50,8 +50,8 @@ countsKept programCount dataCount inputCount =
     leb programCount 4096 && leb dataCount 3072 && leb inputCount 1024
 
 -- contents that a file can hold
-unfoldable pub withinLimits : Contents → Bool
-withinLimits c = countsKept (length (c .program)) (length (c .data-words)) (length (c .input))
+unfoldable pub contentsFit : Contents → Bool
+contentsFit c = countsKept (length (c .program)) (length (c .data-words)) (length (c .input))
 
 -- the little-endian word at a place, and the run of n words from a place on
 abbrev pub wordAt : List ℕ → ℕ → ℕ

@@ -6,7 +6,7 @@ use Prim.Native.Nat.{ℕ}
 use lib.ListN.{length}
 use Rattle.answers.specs.Numbers.{isDone}
 use Rattle.answers.specs.NumberLaws.{done-is}
-use Rattle.runfile.specs.Files.{Contents, fileLength, withinLimits}
+use Rattle.runfile.specs.Files.{Contents, fileLength, contentsFit}
 use Rattle.runfile.specs.Facts.{CountsKept}
 use Rattle.runfile.specs.FileLaws.{counts-facts, file-length}
 use Rattle.writing.specs.Writing.{writeAnswer}
@@ -19,7 +19,7 @@ module _ (c : Contents) (bytes : List ℕ) where
   none-written h = simp h
 
   pub counts-written : isDone (writeAnswer c bytes) ≡ true → CountsKept (length (c .program)) (length (c .data-words)) (length (c .input))
-  unfolding withinLimits
+  unfolding contentsFit
   counts-written h = counts-facts _ _ _ (write-facts c bytes (done-is _ h) .0)
 
   pub bytes-written : isDone (writeAnswer c bytes) ≡ true → {n : ℕ} → n ≡ fileLength (length (c .program)) (length (c .data-words)) (length (c .input))

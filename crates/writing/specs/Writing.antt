@@ -7,7 +7,7 @@ use lib.ListN.{length, drop}
 use Rattle.answers.specs.declared.Answer.{Answer}
 use Rattle.answers.specs.declared.Answer.the-variants.{Done, FileRules, FileNoRoom}
 use Rattle.answers.specs.Numbers.{isDone}
-use Rattle.runfile.specs.Files.{Contents, fileOf, withinLimits}
+use Rattle.runfile.specs.Files.{Contents, fileOf, contentsFit}
 
 abbrev pub contents : List ℕ → List ℕ → List ℕ → ℕ → Contents
 contents program dataWords input budget =
@@ -16,7 +16,7 @@ contents program dataWords input budget =
 -- "writing: 22, then 23"; the exact length fits (ruling R34)
 unfoldable pub writeAnswer : Contents → List ℕ → Answer
 writeAnswer c bytes =
-    cond (withinLimits c)
+    cond (contentsFit c)
     (cond (leb (length (fileOf c)) (length bytes)) Done
     FileNoRoom)
     FileRules

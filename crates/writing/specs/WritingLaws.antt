@@ -9,7 +9,7 @@ use lib.Seq.{sets}
 use borrow.Author.Tests.{leb-true, le-leb, lt-leb}
 use Rattle.answers.specs.declared.Answer.the-variants.{Done, FileRules, FileNoRoom}
 use Rattle.answers.specs.Numbers.{isDone}
-use Rattle.runfile.specs.Files.{Contents, bytesOf, headWords, fileOf, withinLimits}
+use Rattle.runfile.specs.Files.{Contents, bytesOf, headWords, fileOf, contentsFit}
 use Rattle.runfile.specs.WordLaws.{bytes-length, bytes-append, sets-append, sets-front}
 use Rattle.writing.specs.Writing.{writeAnswer, written}
 
@@ -27,25 +27,25 @@ module _ (c : Contents) (l l₁ l₂ l₃ l₄ : List ℕ) where
       rw (bytes-append (headWords c), sets-append (bytesOf (headWords c)), head-length, ← head, bytes-append (c .program), sets-append (bytesOf (c .program)), bytes-length (c .program), ← program, bytes-append (c .data-words), sets-append (bytesOf (c .data-words)), bytes-length (c .data-words), ← dataWords) input
 
 module _ (c : Contents) (bytes : List ℕ) where
-  pub write-rules : withinLimits c ≡ false → (FileRules ≡ writeAnswer c bytes) × (bytes ≡ written c bytes)
+  pub write-rules : contentsFit c ≡ false → (FileRules ≡ writeAnswer c bytes) × (bytes ≡ written c bytes)
   unfolding writeAnswer written
   write-rules h = simp h (refl, refl)
 
-  pub write-no-room : withinLimits c ≡ true → length bytes < length (fileOf c) → (FileNoRoom ≡ writeAnswer c bytes) × (bytes ≡ written c bytes)
+  pub write-no-room : contentsFit c ≡ true → length bytes < length (fileOf c) → (FileNoRoom ≡ writeAnswer c bytes) × (bytes ≡ written c bytes)
   unfolding writeAnswer written
   write-no-room h room = simp (h, lt-leb _ _ room) (refl, refl)
 
-  pub write-done : (after : List ℕ) → withinLimits c ≡ true → length (fileOf c) ≤ length bytes → after ≡ sets bytes 0 (fileOf c)
+  pub write-done : (after : List ℕ) → contentsFit c ≡ true → length (fileOf c) ≤ length bytes → after ≡ sets bytes 0 (fileOf c)
       → (Done ≡ writeAnswer c bytes) × (after ≡ written c bytes)
   unfolding writeAnswer written
   write-done after h room e = simp (h, le-leb _ _ room) (refl, e ∙ sets-front (fileOf c) bytes room)
 
-  pub write-facts : writeAnswer c bytes ≡ Done → (withinLimits c ≡ true) × (length (fileOf c) ≤ length bytes)
+  pub write-facts : writeAnswer c bytes ≡ Done → (contentsFit c ≡ true) × (length (fileOf c) ≤ length bytes)
   unfolding writeAnswer
-  write-facts h = by (withinLimits c) refl (leb (length (fileOf c)) (length bytes)) refl
+  write-facts h = by (contentsFit c) refl (leb (length (fileOf c)) (length bytes)) refl
     where
-      by : (within : Bool) → withinLimits c ≡ within → (room : Bool) → leb (length (fileOf c)) (length bytes) ≡ room
-          → (withinLimits c ≡ true) × (length (fileOf c) ≤ length bytes)
+      by : (within : Bool) → contentsFit c ≡ within → (room : Bool) → leb (length (fileOf c)) (length bytes) ≡ room
+          → (contentsFit c ≡ true) × (length (fileOf c) ≤ length bytes)
       by false w room r = absurd (false≢true (ap isDone (simp w at h)))
       by true w false r = absurd (false≢true (ap isDone (simp (w, r) at h)))
       by true w true r = (w, leb-true _ _ r)

@@ -2,7 +2,7 @@ use Rattle.runfile.specs.FileLaws.{counts-facts}
 use Rattle.writing.specs.WritingLaws.{write-rules}
 use mathlib.Core.Path.{sym, _∙_}
 use borrow.Author.Tests.{not-true, not-false}
-use Rattle.runfile.specs.Files.{withinLimits}
+use Rattle.runfile.specs.Files.{contentsFit}
 use borrow.Author.Needs.{needs}
 use Rattle.writing.proofs.write_file.Statement.{statement}
 use Rattle.writing.proofs.write_file.Tie as tie
@@ -11,7 +11,7 @@ counts-kept-requires : tie.Need-counts-kept-requires
 counts-kept-requires c κs = search needs
 
 returns : tie.Need-returns
-unfolding withinLimits
+unfolding contentsFit
 returns c = write-rules _ _ (sym (c .before .counts-kept .ensures) ∙ not-true _ (c .if1 .taken))
 
 write-within-limits-requires : tie.Need-write-within-limits-requires

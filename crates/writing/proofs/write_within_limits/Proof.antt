@@ -1,7 +1,7 @@
 use native.Mathlib.Omega.{arith}
 use Rattle.runfile.specs.FileLaws.{counts-kept, file-length}
 use Rattle.writing.specs.WritingLaws.{write-no-room, write-done}
-use Rattle.runfile.specs.Files.{withinLimits}
+use Rattle.runfile.specs.Files.{contentsFit}
 use borrow.Author.Needs.{needs}
 use Rattle.writing.proofs.write_within_limits.Statement.{statement}
 use Rattle.writing.proofs.write_within_limits.Tie as tie
@@ -19,7 +19,7 @@ file-length-requires : tie.Need-file-length-requires
 file-length-requires c κs = search needs
 
 returns : tie.Need-returns
-unfolding withinLimits
+unfolding contentsFit
 returns c = write-no-room _ _ (counts-kept _ _ _ (c .before .before .before .before .before .before .pre)) (rw file-length (omega arith))
 
 put-file-requires : tie.Need-put-file-requires
@@ -29,7 +29,7 @@ same-length : tie.Need-same-length
 same-length c = search needs
 
 returns-2 : tie.Need-returns-2
-unfolding withinLimits
+unfolding contentsFit
 returns-2 c = write-done _ _ _ (counts-kept _ _ _ (c .before .before .before .before .before .before .before .before .before .before .pre)) (rw file-length (omega arith)) (c .before .before .put-file .ensures)
 
 pub write-within-limits-spec : {M : Type 1} → statement M
