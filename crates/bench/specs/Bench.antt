@@ -10,8 +10,7 @@ use Rattle.machine.specs.Range.{inRange}
 use Rattle.instructions.specs.Encoding.{lowFits, modificationOf, nextOf, indirectOf, addressModeOf}
 use Rattle.instructions.specs.Decode.{decodeOf}
 use Rattle.pages.specs.Traits.{traitsOf, accumulatorTraits, multiplierTraits, auxiliaryTraits}
-use Rattle.pages.specs.Addressing.{moved, pointed, modified, addressed}
-use Rattle.pages.specs.Addressing as addressing
+use Rattle.pages.specs.Addressing.{moved, pointed, modified, addressed, addressOf}
 use Rattle.pages.specs.AccumulatorPages.{ADDK, SUBK}
 use Rattle.pages.specs.AccumulatorRule.{accumulatorRule}
 use Rattle.pages.specs.MultiplierPages.{PAC, APAC, SPAC, MPY, SQRA, SQRS, SPL, SPH, tableAddress}
@@ -32,5 +31,5 @@ use Rattle.steps.specs.Step.{pagePlan, planOf, afterStore, stepOf}
 use Rattle.bench.specs.Cases.{cases, found, expected}
 
 pub bench : found cases ≡ expected cases
-unfolding signed low holds held settled carry noBorrow added subtracted product productWord leftBy rightBy productShift shiftedProduct productHigh productLow wrappedSum wrappedDifference reversed reversedSum resetMachine inRange lowFits modificationOf nextOf indirectOf addressModeOf decodeOf traitsOf accumulatorTraits multiplierTraits auxiliaryTraits moved pointed modified addressed addressing.addressOf ADDK SUBK accumulatorRule PAC APAC SPAC MPY SQRA SQRS SPL SPH tableAddress multiplierRule MAR auxiliaryRule ruleOf followed destination dataRegion dataPresent inRom inProgramB0 programPresent memoriesFit portFits portSpent slicesFit windowOf programWord firstGiven accesses wrongPort sends addressAbove dataAbsent tableAbsent outputFull readWord wordsRead effectOf writeOf passedMachine passedWrite performed dataAfter outputAfter decodedAt secondAddress secondWord notRepeatable secondAbsent tableFor refusalOf pagePlan planOf afterStore stepOf
+unfolding signed low holds held settled carry noBorrow added subtracted product productWord leftBy rightBy productShift shiftedProduct productHigh productLow wrappedSum wrappedDifference reversed reversedSum resetMachine inRange lowFits modificationOf nextOf indirectOf addressModeOf decodeOf traitsOf accumulatorTraits multiplierTraits auxiliaryTraits moved pointed modified addressed addressOf ADDK SUBK accumulatorRule PAC APAC SPAC MPY SQRA SQRS SPL SPH tableAddress multiplierRule MAR auxiliaryRule ruleOf followed destination dataRegion dataPresent inRom inProgramB0 programPresent memoriesFit portFits portSpent slicesFit windowOf programWord firstGiven accesses wrongPort sends addressAbove dataAbsent tableAbsent outputFull readWord wordsRead effectOf writeOf passedMachine passedWrite performed dataAfter outputAfter decodedAt secondAddress secondWord notRepeatable secondAbsent tableFor refusalOf pagePlan planOf afterStore stepOf
 bench = refl

@@ -11,8 +11,7 @@ use Rattle.machine.specs.Range.{inRange}
 use Rattle.instructions.specs.Encoding.{lowFits, modificationOf, nextOf, indirectOf, addressModeOf}
 use Rattle.instructions.specs.Decode.{decodeOf}
 use Rattle.pages.specs.Traits.{traitsOf, multiplierTraits, modesTraits}
-use Rattle.pages.specs.Addressing.{moved, pointed, modified, addressed}
-use Rattle.pages.specs.Addressing as addressing
+use Rattle.pages.specs.Addressing.{moved, pointed, modified, addressed, addressOf}
 use Rattle.pages.specs.MultiplierPages.{APAC, MAC, tableAddress}
 use Rattle.pages.specs.ModesPages.{RPTK}
 use Rattle.pages.specs.ModesRule.{modesRule}
@@ -45,5 +44,5 @@ pub record Computed : Type 0 where
   pub one-changed-128 : shown (runWith 127 0x8001 1) ≡ 0 ∷ 130 ∷ 0x7FFF_FE00 ∷ 0 ∷ []
 
 pub computed : Computed
-unfolding signed low holds held settled carry noBorrow added subtracted product productWord leftBy rightBy productShift shiftedProduct productHigh productLow wrappedSum wrappedDifference reversed reversedSum resetMachine inRange lowFits modificationOf nextOf indirectOf addressModeOf decodeOf traitsOf multiplierTraits moved pointed modified addressed addressing.addressOf APAC tableAddress multiplierRule ruleOf followed destination dataRegion dataPresent inRom inProgramB0 programPresent memoriesFit portFits portSpent slicesFit windowOf programWord firstGiven accesses wrongPort sends addressAbove dataAbsent tableAbsent outputFull readWord wordsRead effectOf writeOf passedMachine passedWrite performed dataAfter outputAfter decodedAt secondAddress secondWord notRepeatable secondAbsent tableFor refusalOf pagePlan planOf afterStore stepOf modesTraits MAC RPTK modesRule checksOf runOf romWith worldWith runWith
+unfolding signed low holds held settled carry noBorrow added subtracted product productWord leftBy rightBy productShift shiftedProduct productHigh productLow wrappedSum wrappedDifference reversed reversedSum resetMachine inRange lowFits modificationOf nextOf indirectOf addressModeOf decodeOf traitsOf multiplierTraits moved pointed modified addressed addressOf APAC tableAddress multiplierRule ruleOf followed destination dataRegion dataPresent inRom inProgramB0 programPresent memoriesFit portFits portSpent slicesFit windowOf programWord firstGiven accesses wrongPort sends addressAbove dataAbsent tableAbsent outputFull readWord wordsRead effectOf writeOf passedMachine passedWrite performed dataAfter outputAfter decodedAt secondAddress secondWord notRepeatable secondAbsent tableFor refusalOf pagePlan planOf afterStore stepOf modesTraits MAC RPTK modesRule checksOf runOf romWith worldWith runWith
 computed = record { all-127 = refl; all-128-held = refl; all-128-turned-over = refl; all-128-before-the-last = refl; one-changed-128 = refl }

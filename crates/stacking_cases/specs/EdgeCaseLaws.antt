@@ -16,8 +16,7 @@ use Rattle.answers.specs.NumberLaws.{number-injective}
 use Rattle.instructions.specs.Encoding.{lowFits, modificationOf, nextOf, indirectOf, addressModeOf}
 use Rattle.instructions.specs.Decode.{decodeOf}
 use Rattle.pages.specs.Traits.{traitsOf, multiplierTraits, modesTraits}
-use Rattle.pages.specs.Addressing.{moved, pointed, modified, addressed}
-use Rattle.pages.specs.Addressing as addressing
+use Rattle.pages.specs.Addressing.{moved, pointed, modified, addressed, addressOf}
 use Rattle.pages.specs.MultiplierPages.{APAC, MAC, MACD, tableAddress}
 use Rattle.pages.specs.ModesPages.{RPT}
 use Rattle.pages.specs.ModesRule.{modesRule}
@@ -47,7 +46,7 @@ use Rattle.stacking_cases.specs.EdgeCase.{edgeRom, edgeData, edgeMachine
 use Rattle.stacking_cases.specs.SizedLaws.{allSized, sized-by}
 
 pub edge-case : EdgeCase
-unfolding signed low holds held settled carry added product productWord leftBy rightBy productShift shiftedProduct wrappedSum resetMachine inRange lowFits modificationOf nextOf indirectOf addressModeOf decodeOf traitsOf multiplierTraits moved pointed modified addressed addressing.addressOf APAC tableAddress multiplierRule ruleOf followed destination dataRegion dataPresent onChip moveAllowed inRom inProgramB0 programPresent memoriesFit portFits portSpent slicesFit windowOf programWord firstGiven accesses wrongPort sends addressAbove dataAbsent tableAbsent outputFull readWord wordsRead effectOf writeOf passedMachine passedWrite performed dataAfter outputAfter decodedAt secondAddress secondWord notRepeatable secondAbsent tableFor refusalOf pagePlan planOf afterStore stepOf modesTraits MAC MACD RPT modesRule checksOf runOf pairFor pairAt pairsRead words exactSum edgeRom edgeData edgeMachine edgeWorld edgeRun
+unfolding signed low holds held settled carry added product productWord leftBy rightBy productShift shiftedProduct wrappedSum resetMachine inRange lowFits modificationOf nextOf indirectOf addressModeOf decodeOf traitsOf multiplierTraits moved pointed modified addressed addressOf APAC tableAddress multiplierRule ruleOf followed destination dataRegion dataPresent onChip moveAllowed inRom inProgramB0 programPresent memoriesFit portFits portSpent slicesFit windowOf programWord firstGiven accesses wrongPort sends addressAbove dataAbsent tableAbsent outputFull readWord wordsRead effectOf writeOf passedMachine passedWrite performed dataAfter outputAfter decodedAt secondAddress secondWord notRepeatable secondAbsent tableFor refusalOf pagePlan planOf afterStore stepOf modesTraits MAC MACD RPT modesRule checksOf runOf pairFor pairAt pairsRead words exactSum edgeRom edgeData edgeMachine edgeWorld edgeRun
 edge-case = record { comes-to = refl; leaves = refl; reads = refl; exact = refl }
 
 -- *+
@@ -55,7 +54,7 @@ abbrev plusOne : Address
 plusOne = Indirect (record { modification = Plus; next = Same })
 
 pub edge-stacks : Stacks edgeRom [] edgeWorld 3
-unfolding wordAhead allSized wrappedSum resetMachine lowFits modificationOf nextOf indirectOf addressModeOf decodeOf addressing.addressOf inRom inProgramB0 windowOf programWord decodedAt edgeRom edgeData edgeMachine edgeWorld edgeRun
+unfolding wordAhead allSized wrappedSum resetMachine lowFits modificationOf nextOf indirectOf addressModeOf decodeOf addressOf inRom inProgramB0 windowOf programWord decodedAt edgeRom edgeData edgeMachine edgeWorld edgeRun
 edge-stacks = record {
   acc-zero = refl;
   p-zero = refl;
