@@ -7,7 +7,7 @@ use Prim.Native.String.{String}
 use native.Mathlib.Omega.{arith}
 use lib.Dec.{T, leb, leb→le}
 use Rattle.instructions.specs.Every.{both-left, both-right}
-use Rattle.instructions.specs.Encoding.{Row, pick, both, printedAt, fits, modifies, reserved, lowFits, has}
+use Rattle.instructions.specs.Encoding.{Page, pick, both, printedAt, fits, modifies, reserved, lowFits, has}
 use Rattle.instructions.specs.Pages.{pages}
 use Rattle.instructions.specs.Decode.{decodeOf}
 use Rattle.instructions.specs.Places.{placeIn, meaningIn, upperIn, pagesOf, first-place}
@@ -84,7 +84,7 @@ only-right true a b o = both-right a b o
 only-right false a b o = o
 
 -- A page among those that may only be shared stands at 130 or past it.
-shared-place : (rs : List Row) (i p w : ℕ) → T (onlyShared (upperIn (w / 256) i rs) (w % 256)) → T (hasAt rs p w) → 130 ≤ i + p
+shared-place : (rs : List Page) (i p w : ℕ) → T (onlyShared (upperIn (w / 256) i rs) (w % 256)) → T (hasAt rs p w) → 130 ≤ i + p
 unfolding onlyShared
 shared-place [] i p w o h = absurd h
 shared-place (r ∷ rs) i zero w o h = go (fits (r .upper) 8 (w / 256)) o h
@@ -107,7 +107,7 @@ shared-place (r ∷ rs) i (suc p) w o h =
     go true o = only-right (lowFits (r .lower) (w % 256)) (leb 130 i) (onlyShared (upperIn (w / 256) (suc i) rs) (w % 256)) o
     go false o = o
 
-own-place : (rs : List Row) (i p w : ℕ) → T (apart (upperIn (w / 256) i rs) (w % 256)) → T (hasAt rs p w) → i + p < 130
+own-place : (rs : List Page) (i p w : ℕ) → T (apart (upperIn (w / 256) i rs) (w % 256)) → T (hasAt rs p w) → i + p < 130
     → placeIn rs w ≡ p
 unfolding apart
 own-place [] i p w a h l = absurd h

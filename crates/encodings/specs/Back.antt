@@ -10,7 +10,7 @@ use lib.Dec.{T, eqb, eqb→eq}
 use lib.ListN.{length}
 use lib.Text.{eqt→eq}
 use Rattle.instructions.specs.Every.{both-left, both-right, all, by-order}
-use Rattle.instructions.specs.Encoding.{Row, row, pick, both, fits, has, means, lowFits, addressModeOf, indirectOf}
+use Rattle.instructions.specs.Encoding.{Page, page, pick, both, fits, has, means, lowFits, addressModeOf, indirectOf}
 use Rattle.instructions.specs.Pages.{basePages, otherPages, pages}
 use Rattle.instructions.specs.Decode.{decodeOf}
 use Rattle.instructions.specs.Places.{placeIn, meaningIn, meaningAt, decode-at-place}
@@ -26,7 +26,7 @@ use Rattle.encodings.specs.Rows.{fields, isOperand, isBranch, unread, pl
 use Rattle.encodings.specs.Cleared.{cleared, lowTest, low-test, operandFields, branchOperand, operands-tested, branches-tested, same-operand, clearedWord, cleared-lt, cleared-low, cleared-upper}
 
 -- a word of a page that decodes to what w decodes to there, and that is the word of it
-record Kept (r : Row) (w : ℕ) : Type 0 where
+record Kept (r : Page) (w : ℕ) : Type 0 where
   v : ℕ
   below : v < 65536
   owned : T (has r v)
@@ -37,7 +37,7 @@ both-join : (a b : Bool) → T a → T b → T (both a b)
 both-join true b s t = t
 both-join false b s t = s
 
-keep : (r : Row) (v w : ℕ) → T (framed r) → v < 65536 → T (has r v) → means r v ≡ means r w → fields (means r v) ≡ read r v → Kept r w
+keep : (r : Page) (v w : ℕ) → T (framed r) → v < 65536 → T (has r v) → means r v ≡ means r w → fields (means r v) ≡ read r v → Kept r w
 unfolding lowFits
 keep r v w f h o m e =
     record {
@@ -50,14 +50,14 @@ keep r v w f h o m e =
     }
 
 -- a page with a low byte as t, that has the word, has it without the bits that are free
-cleared-owned : (r : Row) (w : ℕ) → T (lowFits (r .lower) (cleared (w % 256))) → T (has r w) → T (has r (clearedWord w))
+cleared-owned : (r : Page) (w : ℕ) → T (lowFits (r .lower) (cleared (w % 256))) → T (has r w) → T (has r (clearedWord w))
 cleared-owned r w l o =
     rw (cleared-upper w, cleared-low w)
     (both-join (fits (r .upper) 8 (w / 256)) (lowFits (r .lower) (cleared (w % 256)))
     (both-left (fits (r .upper) 8 (w / 256)) (lowFits (r .lower) (w % 256)) o) l)
 
 -- its low byte, at a text that is the page's
-low-passes : (r : Row) (w : ℕ) (t : String) (f : ℕ → Bool) → T (all (lowTest t f) 8 0) → r .lower ≡ t → T (has r w)
+low-passes : (r : Page) (w : ℕ) (t : String) (f : ℕ → Bool) → T (all (lowTest t f) 8 0) → r .lower ≡ t → T (has r w)
     → T (has r (clearedWord w)) × T (f (cleared (w % 256)))
 low-passes r w t f a e o =
     let s : T (both (lowFits t (cleared (w % 256))) (f (cleared (w % 256))))
@@ -89,7 +89,7 @@ indirectBits-is v low e t =
     rw e (x ∙ omega arith)
 
 -- what the lists of rows say at one row: o and b are whether it takes an operand or is a branch
-row-kept : (r : Row) (w : ℕ) (o b : Bool) → (T o → r .lower ≡ "IDDD DDDD") → (T b → r .lower ≡ "1DDD DDDD") → T (framed r)
+row-kept : (r : Page) (w : ℕ) (o b : Bool) → (T o → r .lower ≡ "IDDD DDDD") → (T b → r .lower ≡ "1DDD DDDD") → T (framed r)
     → w < 65536 → T (has r w)
     → pick o unread (pick b unread (fields (means r w))) ≡ pick o unread (pick b unread (read r w))
     → pick o (means r (clearedWord w)) (pick b (means r (clearedWord w)) Nothing) ≡ pick o (means r w) (pick b (means r w) Nothing)
@@ -113,12 +113,12 @@ row-kept r w false true ol bl f h t plain same operands branch =
 row-kept r w false false ol bl f h t plain same operands branch = keep r w w f h t refl plain
 
 -- the row at a place
-abbrev rowAt : List Row → ℕ → Row
-rowAt [] p = row "" "" "" (λ f low. Nothing)
+abbrev rowAt : List Page → ℕ → Page
+rowAt [] p = page "" "" "" (λ f low. Nothing)
 rowAt (r ∷ rs) zero = r
 rowAt (r ∷ rs) (suc p) = rowAt rs p
 
-every-at : (f : Row → Bool) (rs : List Row) (p : ℕ) → p < length rs → T (everyRow f rs) → T (f (rowAt rs p))
+every-at : (f : Page → Bool) (rs : List Page) (p : ℕ) → p < length rs → T (everyRow f rs) → T (f (rowAt rs p))
 unfolding everyRow
 every-at f [] p h t = absurd (not-suc-le-zero h)
 every-at f (r ∷ rs) zero h t = both-left (f r) (everyRow f rs) t
@@ -132,22 +132,22 @@ abbrev rest : {A : Type 0} → List A → List A
 rest [] = []
 rest (x ∷ xs) = xs
 
-same-at : {A : Type 0} (f g : Row → A) (rs : List Row) (p : ℕ) → p < length rs → map f rs ≡ map g rs → f (rowAt rs p) ≡ g (rowAt rs p)
+same-at : {A : Type 0} (f g : Page → A) (rs : List Page) (p : ℕ) → p < length rs → map f rs ≡ map g rs → f (rowAt rs p) ≡ g (rowAt rs p)
 same-at f g [] p h e = absurd (not-suc-le-zero h)
 same-at f g (r ∷ rs) zero h e = ap (headOr (f r)) e
 same-at f g (r ∷ rs) (suc p) h e = same-at f g rs p (le-of-suc-le-suc h) (ap rest e)
 
-has-at : (rs qs : List Row) (p w : ℕ) → p < length rs → hasAt (rs ++ qs) p w ≡ has (rowAt rs p) w
+has-at : (rs qs : List Page) (p w : ℕ) → p < length rs → hasAt (rs ++ qs) p w ≡ has (rowAt rs p) w
 has-at [] qs p w h = absurd (not-suc-le-zero h)
 has-at (r ∷ rs) qs zero w h = refl
 has-at (r ∷ rs) qs (suc p) w h = has-at rs qs p w (le-of-suc-le-suc h)
 
-means-at : (rs qs : List Row) (p w : ℕ) → p < length rs → meaningIn (rs ++ qs) p w ≡ means (rowAt rs p) w
+means-at : (rs qs : List Page) (p w : ℕ) → p < length rs → meaningIn (rs ++ qs) p w ≡ means (rowAt rs p) w
 means-at [] qs p w h = absurd (not-suc-le-zero h)
 means-at (r ∷ rs) qs zero w h = refl
 means-at (r ∷ rs) qs (suc p) w h = means-at rs qs p w (le-of-suc-le-suc h)
 
-place-has : (rs : List Row) (w : ℕ) → placeIn rs w < length rs → T (hasAt rs (placeIn rs w) w)
+place-has : (rs : List Page) (w : ℕ) → placeIn rs w < length rs → T (hasAt rs (placeIn rs w) w)
 place-has [] w h = absurd (not-suc-le-zero h)
 place-has (r ∷ rs) w h = go (has r w) refl h (place-has rs w)
   where
@@ -159,7 +159,7 @@ place-has (r ∷ rs) w h = go (has r w) refl h (place-has rs w)
 kept-at : (p w : ℕ) → p < 75 → w < 65536 → T (has (rowAt basePages p) w) → Kept (rowAt basePages p) w
 kept-at p w l h t =
     let n : p < length basePages = l in
-    let r : Row = rowAt basePages p in
+    let r : Page = rowAt basePages p in
     let v : ℕ = clearedWord w in
     let lv : v % 256 ≡ cleared (w % 256) = cleared-low w in
     row-kept r w (isOperand r) (isBranch r) (eqt→eq (r .lower) "IDDD DDDD") (eqt→eq (r .lower) "1DDD DDDD")
@@ -195,7 +195,7 @@ decode-encode w i h e =
 
     base : placeIn pages w < 75 → decodeOf (encodeOf i) ≡ Base i
     base l =
-        let r : Row = rowAt basePages (placeIn pages w) in
+        let r : Page = rowAt basePages (placeIn pages w) in
         let t : T (has r w)
         = subst (λ (b : Bool). T b) (has-at basePages otherPages (placeIn pages w) w l) (place-has pages w (omega arith)) in
         let k : Kept r w = kept-at (placeIn pages w) w l h t in

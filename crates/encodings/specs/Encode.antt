@@ -3,7 +3,7 @@ use mathlib.Core.List.{List, [], _∷_}
 use Prim.Native.Nat.{ℕ, zero, suc, _+_, _-_, _*_, _/_, _%_, _^_}
 use Prim.Native.String.{String, _++_}
 use lib.Text.{eqt}
-use Rattle.instructions.specs.Encoding.{Row, pick, printedAt, lowestOf}
+use Rattle.instructions.specs.Encoding.{Page, pick, printedAt, lowestOf}
 use Rattle.instructions.specs.Pages.{basePages}
 use Rattle.dma.specs.declared.Modification.{Modification}
 use Rattle.dma.specs.declared.Modification.the-variants.{None, Minus, Plus, MinusReversed, MinusIndex, PlusIndex, PlusReversed}
@@ -45,11 +45,11 @@ bitsAfter t f n zero = n
 bitsAfter t f n (suc k) = bitsAfter t f (n * 2 + bitOf t f k) k
 
 -- the upper and the low byte of a page, as printed
-abbrev pub text : Row → String
+abbrev pub text : Page → String
 text r = r .upper ++ " " ++ r .lower
 
 -- what the page of a name prints
-abbrev pub printed : List Row → String → String
+abbrev pub printed : List Page → String → String
 printed [] n = ""
 printed (r ∷ rs) n = pick (eqt (r .name) n) (text r) (printed rs n)
 

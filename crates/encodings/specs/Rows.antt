@@ -5,7 +5,7 @@ use mathlib.Core.List.{List, [], _∷_, map}
 use Prim.Native.Nat.{ℕ, _/_, _%_}
 use Prim.Native.String.{String}
 use lib.Text.{eqt}
-use Rattle.instructions.specs.Encoding.{Row, pick, under, means, addressModeOf, indirectOf}
+use Rattle.instructions.specs.Encoding.{Page, pick, under, means, addressModeOf, indirectOf}
 use Rattle.instructions.specs.Pages.{basePages}
 use Rattle.instructions.specs.declared.Decoded.{Decoded}
 use Rattle.instructions.specs.declared.Decoded.the-variants.{Base, Published, Nothing}
@@ -18,10 +18,10 @@ fields (Base i) = fieldsOf i
 fields Published = ("", [])
 fields Nothing = ("", [])
 
-abbrev pub isOperand : Row → Bool
+abbrev pub isOperand : Page → Bool
 isOperand r = eqt (r .lower) "IDDD DDDD"
 
-abbrev pub isBranch : Row → Bool
+abbrev pub isBranch : Page → Bool
 isBranch r = eqt (r .lower) "1DDD DDDD"
 
 abbrev pub unread : String × List (String × ℕ)
@@ -38,7 +38,7 @@ abbrev pub numberedWith : ℕ → ℕ → (String → ℕ) → List String → L
 numberedWith i d f [] = []
 numberedWith i d f (c ∷ cs) = (c, pick (eqt c "I") i (pick (eqt c "D") d (f c))) ∷ numberedWith i d f cs
 
-abbrev pub readWith : (Row → Bool) → ℕ → ℕ → ℕ → List Row → List (String × List (String × ℕ))
+abbrev pub readWith : (Page → Bool) → ℕ → ℕ → ℕ → List Page → List (String × List (String × ℕ))
 readWith which i d w [] = []
 readWith which i d w (r ∷ rs) =
     pick (which r) (r .name, numberedWith i d (under (text r) 16 w) (letters (text r) 16)) unread ∷ readWith which i d w rs

@@ -10,7 +10,7 @@ use lib.Text.{eqt, eqt→eq}
 use lib.Pow.{shr-shr}
 use borrow.Author.Tests.{lt-ltb, le-ltb}
 use Rattle.instructions.specs.Every.{both-left, both-right, all, all-at, by-order}
-use Rattle.instructions.specs.Encoding.{Row, pick, both, printedAt, allows, fits, widthOf, lowestOf, under, has}
+use Rattle.instructions.specs.Encoding.{Page, pick, both, printedAt, allows, fits, widthOf, lowestOf, under, has}
 use Rattle.instructions.specs.Pages.{basePages}
 use Rattle.encodings.specs.Encode.{bitOf, bitsAfter, text, letterNumber, printed, wordOf}
 use Rattle.encodings.specs.Bits.{bits-after, bit-of-low, bit-of-field}
@@ -46,7 +46,7 @@ number-in f (d ∷ ds) c t = go (eqt c d) (eqt→eq c d) t (number-in f ds c)
     go false e t k = k t
 
 -- Test: bit j is printed in the word as in its byte, and under a letter it lies among that letter's bits.
-pub framedAt : Row → ℕ → Bool
+pub framedAt : Page → ℕ → Bool
 framedAt r j =
     both (eqt (printedAt (text r) j) (pick (ltb j 8) (printedAt (r .lower) j) (printedAt (r .upper) (j - 8))))
     (pick (eqt (printedAt (text r) j) "0") true
@@ -56,10 +56,10 @@ framedAt r j =
     (ltb j (lowestOf (text r) (printedAt (text r) j) 16 0 + widthOf (text r) (printedAt (text r) j) 16))))))
 
 -- Test: every bit is so, and the page's name is its own.
-pub framed : Row → Bool
+pub framed : Page → Bool
 framed r = both (all (framedAt r) 4 0) (eqt (printed basePages (r .name)) (text r))
 
-unfoldable pub everyRow : (Row → Bool) → List Row → Bool
+unfoldable pub everyRow : (Page → Bool) → List Page → Bool
 everyRow f [] = true
 everyRow f (r ∷ rs) = both (f r) (everyRow f rs)
 
@@ -81,7 +81,7 @@ bit-is true q l b x a f k = sym (eqb→eq b 0 a)
 bit-is false true l b x a f k = sym (eqb→eq b 1 a)
 bit-is false false l b x a f k = k f
 
-pub printed-bit : (r : Row) (w j : ℕ) → T (fits (r .upper) 8 (w / 256)) → T (fits (r .lower) 8 (w % 256)) → j < 16
+pub printed-bit : (r : Page) (w j : ℕ) → T (fits (r .upper) 8 (w / 256)) → T (fits (r .lower) 8 (w % 256)) → j < 16
     → T (allows (pick (ltb j 8) (printedAt (r .lower) j) (printedAt (r .upper) (j - 8))) (w / 2 ^ j % 2))
 printed-bit r w j u l h =
     by-order j 8
@@ -90,11 +90,11 @@ printed-bit r w j u l h =
     rw (le-ltb j 8 o) (rw (shr-shr w 8 (j - 8), e) at (fits-at (r .upper) 8 (j - 8) (w / 256) (omega arith) u)))
 
 -- a page and its fields, as a word of it has them
-abbrev pub read : Row → ℕ → String × List (String × ℕ)
+abbrev pub read : Page → ℕ → String × List (String × ℕ)
 read r w = (r .name, numbered (under (text r) 16 w) (letters (text r) 16))
 
 -- a page's word is what the page prints, with the fields that it reads from the word
-pub word-back : (r : Row) (w : ℕ) → T (framed r) → w < 65536 → T (fits (r .upper) 8 (w / 256)) → T (fits (r .lower) 8 (w % 256))
+pub word-back : (r : Page) (w : ℕ) → T (framed r) → w < 65536 → T (fits (r .upper) 8 (w / 256)) → T (fits (r .lower) 8 (w % 256))
     → wordOf (read r w) ≡ w
 unfolding framed framedAt wordOf
 word-back r w f h u l =

@@ -102,21 +102,21 @@ unfoldable pub lowFits : String → ℕ → Bool
 lowFits t low = both (fits t 8 low) (pick (modifies (printedAt t 6)) (not (reserved low)) true)
 
 -- a page: its name, its upper and its low byte as printed, and what a word of it is, from its fields and its low byte
-pub record Row : Type 0 where
+pub record Page : Type 0 where
   pub name : String
   pub upper : String
   pub lower : String
   pub meaning : (String → ℕ) → ℕ → Decoded
 
-abbrev pub row : String → String → String → ((String → ℕ) → ℕ → Decoded) → Row
-row n u l m = record { name = n; upper = u; lower = l; meaning = m }
+abbrev pub page : String → String → String → ((String → ℕ) → ℕ → Decoded) → Page
+page n u l m = record { name = n; upper = u; lower = l; meaning = m }
 
 -- a page that is not in the base
-abbrev pub other : String → String → String → Row
-other n u l = row n u l (λ f low. Published)
+abbrev pub other : String → String → String → Page
+other n u l = page n u l (λ f low. Published)
 
 -- what a page makes of a word
-abbrev pub means : Row → ℕ → Decoded
+abbrev pub means : Page → ℕ → Decoded
 means r w = r .meaning (under (r .upper ++ " " ++ r .lower) 16 w) (w % 256)
 
 abbrev pub accumulator : Accumulator → Decoded
@@ -138,10 +138,10 @@ abbrev pub modes : Modes → Decoded
 modes x = Base (family.Modes x)
 
 -- the page has the word
-abbrev pub has : Row → ℕ → Bool
+abbrev pub has : Page → ℕ → Bool
 has r w = both (fits (r .upper) 8 (w / 256)) (lowFits (r .lower) (w % 256))
 
 -- what the first page that has the word makes of it
-abbrev pub first : List Row → ℕ → Decoded
+abbrev pub first : List Page → ℕ → Decoded
 first [] w = Nothing
 first (r ∷ rs) w = pick (has r w) (means r w) (first rs w)

@@ -1,6 +1,6 @@
 -- The 133 pages of section 4.3, one row for each: the bits as the page (or Table 4-4) prints them, and what the page makes of them.
 use mathlib.Core.List.{List, [], _∷_, _++_}
-use Rattle.instructions.specs.Encoding.{Row, row, other, addressModeOf, indirectOf}
+use Rattle.instructions.specs.Encoding.{Page, page, other, addressModeOf, indirectOf}
 use Rattle.instructions.specs.declared.Accumulator.the-variants.{Add, Sub, Lac, Addh, Adds, Subh, Subs, Subc, Zalh, Zals, And, Or, Xor, Sacl, Sach, Lack, Addk, Subk, Cmpl, Neg, Abs, Sfl, Sfr}
 use Rattle.instructions.specs.declared.Multiplier.the-variants.{Lt, Lta, Ltp, Ltd, Lts, Mpy, Mpya, Mpys, Sqra, Sqrs, Mac, Macd, Spl, Sph, Mpyk, Pac, Apac, Spac, Spm}
 use Rattle.instructions.specs.declared.Auxiliary.the-variants.{Lar, Sar, Mar, Ldp, Lark, Adrk, Sbrk, Ldpk}
@@ -10,112 +10,112 @@ use Rattle.instructions.specs.declared.Modes.the-variants.{Rpt, Rptk, So
 use Rattle.instructions.specs.Encoding.{accumulator, multiplier, auxiliary, branches, transfers, modes}
 
 -- The base: the accumulator.
-abbrev pub accumulatorPages : List Row
+abbrev pub accumulatorPages : List Page
 accumulatorPages =
-    row "ADD" "0000 SSSS" "IDDD DDDD" (λ f low. accumulator (Add (f "S") (addressModeOf low))) ∷
-    row "SUB" "0001 SSSS" "IDDD DDDD" (λ f low. accumulator (Sub (f "S") (addressModeOf low))) ∷
-    row "LAC" "0010 SSSS" "IDDD DDDD" (λ f low. accumulator (Lac (f "S") (addressModeOf low))) ∷
-    row "ADDH" "0100 1000" "IDDD DDDD" (λ f low. accumulator (Addh (addressModeOf low))) ∷
-    row "ADDS" "0100 1001" "IDDD DDDD" (λ f low. accumulator (Adds (addressModeOf low))) ∷
-    row "SUBH" "0100 0100" "IDDD DDDD" (λ f low. accumulator (Subh (addressModeOf low))) ∷
-    row "SUBS" "0100 0101" "IDDD DDDD" (λ f low. accumulator (Subs (addressModeOf low))) ∷
-    row "SUBC" "0100 0111" "IDDD DDDD" (λ f low. accumulator (Subc (addressModeOf low))) ∷
-    row "ZALH" "0100 0000" "IDDD DDDD" (λ f low. accumulator (Zalh (addressModeOf low))) ∷
-    row "ZALS" "0100 0001" "IDDD DDDD" (λ f low. accumulator (Zals (addressModeOf low))) ∷
-    row "AND" "0100 1110" "IDDD DDDD" (λ f low. accumulator (And (addressModeOf low))) ∷
-    row "OR" "0100 1101" "IDDD DDDD" (λ f low. accumulator (Or (addressModeOf low))) ∷
-    row "XOR" "0100 1100" "IDDD DDDD" (λ f low. accumulator (Xor (addressModeOf low))) ∷
-    row "SACL" "0110 0XXX" "IDDD DDDD" (λ f low. accumulator (Sacl (f "X") (addressModeOf low))) ∷
-    row "SACH" "0110 1XXX" "IDDD DDDD" (λ f low. accumulator (Sach (f "X") (addressModeOf low))) ∷
-    row "LACK" "1100 1010" "KKKK KKKK" (λ f low. accumulator (Lack (f "K"))) ∷
-    row "ADDK" "1100 1100" "KKKK KKKK" (λ f low. accumulator (Addk (f "K"))) ∷
-    row "SUBK" "1100 1101" "KKKK KKKK" (λ f low. accumulator (Subk (f "K"))) ∷
-    row "CMPL" "1100 1110" "0010 0111" (λ f low. accumulator Cmpl) ∷
-    row "NEG" "1100 1110" "0010 0011" (λ f low. accumulator Neg) ∷
-    row "ABS" "1100 1110" "0001 1011" (λ f low. accumulator Abs) ∷
-    row "SFL" "1100 1110" "0001 1000" (λ f low. accumulator Sfl) ∷
-    row "SFR" "1100 1110" "0001 1001" (λ f low. accumulator Sfr) ∷
+    page "ADD" "0000 SSSS" "IDDD DDDD" (λ f low. accumulator (Add (f "S") (addressModeOf low))) ∷
+    page "SUB" "0001 SSSS" "IDDD DDDD" (λ f low. accumulator (Sub (f "S") (addressModeOf low))) ∷
+    page "LAC" "0010 SSSS" "IDDD DDDD" (λ f low. accumulator (Lac (f "S") (addressModeOf low))) ∷
+    page "ADDH" "0100 1000" "IDDD DDDD" (λ f low. accumulator (Addh (addressModeOf low))) ∷
+    page "ADDS" "0100 1001" "IDDD DDDD" (λ f low. accumulator (Adds (addressModeOf low))) ∷
+    page "SUBH" "0100 0100" "IDDD DDDD" (λ f low. accumulator (Subh (addressModeOf low))) ∷
+    page "SUBS" "0100 0101" "IDDD DDDD" (λ f low. accumulator (Subs (addressModeOf low))) ∷
+    page "SUBC" "0100 0111" "IDDD DDDD" (λ f low. accumulator (Subc (addressModeOf low))) ∷
+    page "ZALH" "0100 0000" "IDDD DDDD" (λ f low. accumulator (Zalh (addressModeOf low))) ∷
+    page "ZALS" "0100 0001" "IDDD DDDD" (λ f low. accumulator (Zals (addressModeOf low))) ∷
+    page "AND" "0100 1110" "IDDD DDDD" (λ f low. accumulator (And (addressModeOf low))) ∷
+    page "OR" "0100 1101" "IDDD DDDD" (λ f low. accumulator (Or (addressModeOf low))) ∷
+    page "XOR" "0100 1100" "IDDD DDDD" (λ f low. accumulator (Xor (addressModeOf low))) ∷
+    page "SACL" "0110 0XXX" "IDDD DDDD" (λ f low. accumulator (Sacl (f "X") (addressModeOf low))) ∷
+    page "SACH" "0110 1XXX" "IDDD DDDD" (λ f low. accumulator (Sach (f "X") (addressModeOf low))) ∷
+    page "LACK" "1100 1010" "KKKK KKKK" (λ f low. accumulator (Lack (f "K"))) ∷
+    page "ADDK" "1100 1100" "KKKK KKKK" (λ f low. accumulator (Addk (f "K"))) ∷
+    page "SUBK" "1100 1101" "KKKK KKKK" (λ f low. accumulator (Subk (f "K"))) ∷
+    page "CMPL" "1100 1110" "0010 0111" (λ f low. accumulator Cmpl) ∷
+    page "NEG" "1100 1110" "0010 0011" (λ f low. accumulator Neg) ∷
+    page "ABS" "1100 1110" "0001 1011" (λ f low. accumulator Abs) ∷
+    page "SFL" "1100 1110" "0001 1000" (λ f low. accumulator Sfl) ∷
+    page "SFR" "1100 1110" "0001 1001" (λ f low. accumulator Sfr) ∷
     []
 
 -- The base: T, P and multiplication.
-abbrev pub multiplierPages : List Row
+abbrev pub multiplierPages : List Page
 multiplierPages =
-    row "LT" "0011 1100" "IDDD DDDD" (λ f low. multiplier (Lt (addressModeOf low))) ∷
-    row "LTA" "0011 1101" "IDDD DDDD" (λ f low. multiplier (Lta (addressModeOf low))) ∷
-    row "LTP" "0011 1110" "IDDD DDDD" (λ f low. multiplier (Ltp (addressModeOf low))) ∷
-    row "LTD" "0011 1111" "IDDD DDDD" (λ f low. multiplier (Ltd (addressModeOf low))) ∷
-    row "LTS" "0101 1011" "IDDD DDDD" (λ f low. multiplier (Lts (addressModeOf low))) ∷
-    row "MPY" "0011 1000" "IDDD DDDD" (λ f low. multiplier (Mpy (addressModeOf low))) ∷
-    row "MPYA" "0011 1010" "IDDD DDDD" (λ f low. multiplier (Mpya (addressModeOf low))) ∷
-    row "MPYS" "0011 1011" "IDDD DDDD" (λ f low. multiplier (Mpys (addressModeOf low))) ∷
-    row "SQRA" "0011 1001" "IDDD DDDD" (λ f low. multiplier (Sqra (addressModeOf low))) ∷
-    row "SQRS" "0101 1010" "IDDD DDDD" (λ f low. multiplier (Sqrs (addressModeOf low))) ∷
-    row "MAC" "0101 1101" "IDDD DDDD" (λ f low. multiplier (Mac (addressModeOf low))) ∷
-    row "MACD" "0101 1100" "IDDD DDDD" (λ f low. multiplier (Macd (addressModeOf low))) ∷
-    row "SPL" "0111 1100" "IDDD DDDD" (λ f low. multiplier (Spl (addressModeOf low))) ∷
-    row "SPH" "0111 1101" "IDDD DDDD" (λ f low. multiplier (Sph (addressModeOf low))) ∷
-    row "MPYK" "101K KKKK" "KKKK KKKK" (λ f low. multiplier (Mpyk (f "K"))) ∷
-    row "PAC" "1100 1110" "0001 0100" (λ f low. multiplier Pac) ∷
-    row "APAC" "1100 1110" "0001 0101" (λ f low. multiplier Apac) ∷
-    row "SPAC" "1100 1110" "0001 0110" (λ f low. multiplier Spac) ∷
-    row "SPM" "1100 1110" "0000 10KK" (λ f low. multiplier (Spm (f "K"))) ∷
+    page "LT" "0011 1100" "IDDD DDDD" (λ f low. multiplier (Lt (addressModeOf low))) ∷
+    page "LTA" "0011 1101" "IDDD DDDD" (λ f low. multiplier (Lta (addressModeOf low))) ∷
+    page "LTP" "0011 1110" "IDDD DDDD" (λ f low. multiplier (Ltp (addressModeOf low))) ∷
+    page "LTD" "0011 1111" "IDDD DDDD" (λ f low. multiplier (Ltd (addressModeOf low))) ∷
+    page "LTS" "0101 1011" "IDDD DDDD" (λ f low. multiplier (Lts (addressModeOf low))) ∷
+    page "MPY" "0011 1000" "IDDD DDDD" (λ f low. multiplier (Mpy (addressModeOf low))) ∷
+    page "MPYA" "0011 1010" "IDDD DDDD" (λ f low. multiplier (Mpya (addressModeOf low))) ∷
+    page "MPYS" "0011 1011" "IDDD DDDD" (λ f low. multiplier (Mpys (addressModeOf low))) ∷
+    page "SQRA" "0011 1001" "IDDD DDDD" (λ f low. multiplier (Sqra (addressModeOf low))) ∷
+    page "SQRS" "0101 1010" "IDDD DDDD" (λ f low. multiplier (Sqrs (addressModeOf low))) ∷
+    page "MAC" "0101 1101" "IDDD DDDD" (λ f low. multiplier (Mac (addressModeOf low))) ∷
+    page "MACD" "0101 1100" "IDDD DDDD" (λ f low. multiplier (Macd (addressModeOf low))) ∷
+    page "SPL" "0111 1100" "IDDD DDDD" (λ f low. multiplier (Spl (addressModeOf low))) ∷
+    page "SPH" "0111 1101" "IDDD DDDD" (λ f low. multiplier (Sph (addressModeOf low))) ∷
+    page "MPYK" "101K KKKK" "KKKK KKKK" (λ f low. multiplier (Mpyk (f "K"))) ∷
+    page "PAC" "1100 1110" "0001 0100" (λ f low. multiplier Pac) ∷
+    page "APAC" "1100 1110" "0001 0101" (λ f low. multiplier Apac) ∷
+    page "SPAC" "1100 1110" "0001 0110" (λ f low. multiplier Spac) ∷
+    page "SPM" "1100 1110" "0000 10KK" (λ f low. multiplier (Spm (f "K"))) ∷
     []
 
 -- The base: auxiliary registers and the data page.
-abbrev pub auxiliaryPages : List Row
+abbrev pub auxiliaryPages : List Page
 auxiliaryPages =
-    row "LAR" "0011 0RRR" "IDDD DDDD" (λ f low. auxiliary (Lar (f "R") (addressModeOf low))) ∷
-    row "SAR" "0111 0RRR" "IDDD DDDD" (λ f low. auxiliary (Sar (f "R") (addressModeOf low))) ∷
-    row "MAR" "0101 0101" "IDDD DDDD" (λ f low. auxiliary (Mar (addressModeOf low))) ∷
-    row "LDP" "0101 0010" "IDDD DDDD" (λ f low. auxiliary (Ldp (addressModeOf low))) ∷
-    row "LARK" "1100 0RRR" "KKKK KKKK" (λ f low. auxiliary (Lark (f "R") (f "K"))) ∷
-    row "ADRK" "0111 1110" "KKKK KKKK" (λ f low. auxiliary (Adrk (f "K"))) ∷
-    row "SBRK" "0111 1111" "KKKK KKKK" (λ f low. auxiliary (Sbrk (f "K"))) ∷
-    row "LDPK" "1100 100K" "KKKK KKKK" (λ f low. auxiliary (Ldpk (f "K"))) ∷
+    page "LAR" "0011 0RRR" "IDDD DDDD" (λ f low. auxiliary (Lar (f "R") (addressModeOf low))) ∷
+    page "SAR" "0111 0RRR" "IDDD DDDD" (λ f low. auxiliary (Sar (f "R") (addressModeOf low))) ∷
+    page "MAR" "0101 0101" "IDDD DDDD" (λ f low. auxiliary (Mar (addressModeOf low))) ∷
+    page "LDP" "0101 0010" "IDDD DDDD" (λ f low. auxiliary (Ldp (addressModeOf low))) ∷
+    page "LARK" "1100 0RRR" "KKKK KKKK" (λ f low. auxiliary (Lark (f "R") (f "K"))) ∷
+    page "ADRK" "0111 1110" "KKKK KKKK" (λ f low. auxiliary (Adrk (f "K"))) ∷
+    page "SBRK" "0111 1111" "KKKK KKKK" (λ f low. auxiliary (Sbrk (f "K"))) ∷
+    page "LDPK" "1100 100K" "KKKK KKKK" (λ f low. auxiliary (Ldpk (f "K"))) ∷
     []
 
 -- The base: branches, CALL and RET. BZ is lost: Table 4-4 (ruling R6).
-abbrev pub branchPages : List Row
+abbrev pub branchPages : List Page
 branchPages =
-    row "B" "1111 1111" "1DDD DDDD" (λ f low. branches (B (indirectOf low))) ∷
-    row "BANZ" "1111 1011" "1DDD DDDD" (λ f low. branches (Banz (indirectOf low))) ∷
-    row "BZ" "1111 0110" "1DDD DDDD" (λ f low. branches (Bz (indirectOf low))) ∷
-    row "BNZ" "1111 0101" "1DDD DDDD" (λ f low. branches (Bnz (indirectOf low))) ∷
-    row "BGZ" "1111 0001" "1DDD DDDD" (λ f low. branches (Bgz (indirectOf low))) ∷
-    row "BGEZ" "1111 0100" "1DDD DDDD" (λ f low. branches (Bgez (indirectOf low))) ∷
-    row "BLZ" "1111 0011" "1DDD DDDD" (λ f low. branches (Blz (indirectOf low))) ∷
-    row "BLEZ" "1111 0010" "1DDD DDDD" (λ f low. branches (Blez (indirectOf low))) ∷
-    row "BV" "1111 0000" "1DDD DDDD" (λ f low. branches (Bv (indirectOf low))) ∷
-    row "BNV" "1111 0111" "1DDD DDDD" (λ f low. branches (Bnv (indirectOf low))) ∷
-    row "CALL" "1111 1110" "1DDD DDDD" (λ f low. branches (Call (indirectOf low))) ∷
-    row "RET" "1100 1110" "0010 0110" (λ f low. branches Ret) ∷
+    page "B" "1111 1111" "1DDD DDDD" (λ f low. branches (B (indirectOf low))) ∷
+    page "BANZ" "1111 1011" "1DDD DDDD" (λ f low. branches (Banz (indirectOf low))) ∷
+    page "BZ" "1111 0110" "1DDD DDDD" (λ f low. branches (Bz (indirectOf low))) ∷
+    page "BNZ" "1111 0101" "1DDD DDDD" (λ f low. branches (Bnz (indirectOf low))) ∷
+    page "BGZ" "1111 0001" "1DDD DDDD" (λ f low. branches (Bgz (indirectOf low))) ∷
+    page "BGEZ" "1111 0100" "1DDD DDDD" (λ f low. branches (Bgez (indirectOf low))) ∷
+    page "BLZ" "1111 0011" "1DDD DDDD" (λ f low. branches (Blz (indirectOf low))) ∷
+    page "BLEZ" "1111 0010" "1DDD DDDD" (λ f low. branches (Blez (indirectOf low))) ∷
+    page "BV" "1111 0000" "1DDD DDDD" (λ f low. branches (Bv (indirectOf low))) ∷
+    page "BNV" "1111 0111" "1DDD DDDD" (λ f low. branches (Bnv (indirectOf low))) ∷
+    page "CALL" "1111 1110" "1DDD DDDD" (λ f low. branches (Call (indirectOf low))) ∷
+    page "RET" "1100 1110" "0010 0110" (λ f low. branches Ret) ∷
     []
 
 -- The base: the data move and the ports.
-abbrev pub transferPages : List Row
+abbrev pub transferPages : List Page
 transferPages =
-    row "DMOV" "0101 0110" "IDDD DDDD" (λ f low. transfers (Dmov (addressModeOf low))) ∷
-    row "IN" "1000 AAAA" "IDDD DDDD" (λ f low. transfers (In (f "A") (addressModeOf low))) ∷
-    row "OUT" "1110 AAAA" "IDDD DDDD" (λ f low. transfers (Out (f "A") (addressModeOf low))) ∷
+    page "DMOV" "0101 0110" "IDDD DDDD" (λ f low. transfers (Dmov (addressModeOf low))) ∷
+    page "IN" "1000 AAAA" "IDDD DDDD" (λ f low. transfers (In (f "A") (addressModeOf low))) ∷
+    page "OUT" "1110 AAAA" "IDDD DDDD" (λ f low. transfers (Out (f "A") (addressModeOf low))) ∷
     []
 
 -- The base: modes, repeats and the stack. ROVM is lost: Table 4-4 (ruling R6).
-abbrev pub modePages : List Row
+abbrev pub modePages : List Page
 modePages =
-    row "RPT" "0100 1011" "IDDD DDDD" (λ f low. modes (Rpt (addressModeOf low))) ∷
-    row "RPTK" "1100 1011" "KKKK KKKK" (λ f low. modes (Rptk (f "K"))) ∷
-    row "SOVM" "1100 1110" "0000 0011" (λ f low. modes Sovm) ∷
-    row "ROVM" "1100 1110" "0000 0010" (λ f low. modes Rovm) ∷
-    row "SSXM" "1100 1110" "0000 0111" (λ f low. modes Ssxm) ∷
-    row "RSXM" "1100 1110" "0000 0110" (λ f low. modes Rsxm) ∷
-    row "CNFD" "1100 1110" "0000 0100" (λ f low. modes Cnfd) ∷
-    row "CNFP" "1100 1110" "0000 0101" (λ f low. modes Cnfp) ∷
-    row "PUSH" "1100 1110" "0001 1100" (λ f low. modes Push) ∷
-    row "POP" "1100 1110" "0001 1101" (λ f low. modes Pop) ∷
+    page "RPT" "0100 1011" "IDDD DDDD" (λ f low. modes (Rpt (addressModeOf low))) ∷
+    page "RPTK" "1100 1011" "KKKK KKKK" (λ f low. modes (Rptk (f "K"))) ∷
+    page "SOVM" "1100 1110" "0000 0011" (λ f low. modes Sovm) ∷
+    page "ROVM" "1100 1110" "0000 0010" (λ f low. modes Rovm) ∷
+    page "SSXM" "1100 1110" "0000 0111" (λ f low. modes Ssxm) ∷
+    page "RSXM" "1100 1110" "0000 0110" (λ f low. modes Rsxm) ∷
+    page "CNFD" "1100 1110" "0000 0100" (λ f low. modes Cnfd) ∷
+    page "CNFP" "1100 1110" "0000 0101" (λ f low. modes Cnfp) ∷
+    page "PUSH" "1100 1110" "0001 1100" (λ f low. modes Push) ∷
+    page "POP" "1100 1110" "0001 1101" (λ f low. modes Pop) ∷
     []
 
 -- Not in the base: pages with direct and indirect addressing.
-abbrev pub otherAddressed : List Row
+abbrev pub otherAddressed : List Page
 otherAddressed =
     other "ADDC" "0100 0011" "IDDD DDDD" ∷
     other "ADDT" "0100 1010" "IDDD DDDD" ∷
@@ -140,7 +140,7 @@ otherAddressed =
     []
 
 -- Not in the base: branches.
-abbrev pub otherBranches : List Row
+abbrev pub otherBranches : List Page
 otherBranches =
     other "BBNZ" "1111 1001" "1DDD DDDD" ∷
     other "BBZ" "1111 1000" "1DDD DDDD" ∷
@@ -150,7 +150,7 @@ otherBranches =
     []
 
 -- Not in the base: pages with the upper byte CEh. SC is lost: Table 4-4 (ruling R6).
-abbrev pub otherControls : List Row
+abbrev pub otherControls : List Page
 otherControls =
     other "BACC" "1100 1110" "0010 0101" ∷
     other "CALA" "1100 1110" "0010 0100" ∷
@@ -178,7 +178,7 @@ otherControls =
     []
 
 -- Not in the base: the long immediates.
-abbrev pub longImmediates : List Row
+abbrev pub longImmediates : List Page
 longImmediates =
     other "LRLK" "1101 0RRR" "0000 0000" ∷
     other "LALK" "1101 SSSS" "0000 0001" ∷
@@ -190,19 +190,19 @@ longImmediates =
     []
 
 -- Pages whose words a page of the base has too. Document 01: ZAC is LACK 0, NOP and LARP are MAR.
-abbrev pub sharedPages : List Row
+abbrev pub sharedPages : List Page
 sharedPages =
     other "ZAC" "1100 1010" "0000 0000" ∷
     other "NOP" "0101 0101" "0000 0000" ∷
     other "LARP" "0101 0101" "1000 1RRR" ∷
     []
 
-abbrev pub basePages : List Row
+abbrev pub basePages : List Page
 basePages = accumulatorPages ++ (multiplierPages ++ (auxiliaryPages ++ (branchPages ++ (transferPages ++ modePages))))
 
-abbrev pub otherPages : List Row
+abbrev pub otherPages : List Page
 otherPages = otherAddressed ++ (otherBranches ++ (otherControls ++ (longImmediates ++ sharedPages)))
 
 -- All of them. A word that two pages have is the base instruction (document 01): its page stands first.
-abbrev pub pages : List Row
+abbrev pub pages : List Page
 pages = basePages ++ otherPages

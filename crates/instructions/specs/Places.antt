@@ -6,24 +6,24 @@ use Prim.Native.Nat.{ℕ, zero, suc, _+_, _/_, _%_}
 use Prim.Native.String.{String}
 use native.Mathlib.Omega.{arith}
 use lib.ListN.{length}
-use Rattle.instructions.specs.Encoding.{Row, pick, both, fits, lowFits, has, means, first}
+use Rattle.instructions.specs.Encoding.{Page, pick, both, fits, lowFits, has, means, first}
 use Rattle.instructions.specs.Pages.{pages, basePages}
 use Rattle.instructions.specs.Decode.{decodeOf}
 use Rattle.instructions.specs.declared.Decoded.{Decoded}
 use Rattle.instructions.specs.declared.Decoded.the-variants.{Nothing}
 
 -- the place of the first page that has the word; the list's length where none does
-abbrev pub placeIn : List Row → ℕ → ℕ
+abbrev pub placeIn : List Page → ℕ → ℕ
 placeIn [] w = 0
 placeIn (r ∷ rs) w = pick (has r w) 0 (suc (placeIn rs w))
 
 -- what the page at a place makes of a word
-abbrev pub meaningIn : List Row → ℕ → ℕ → Decoded
+abbrev pub meaningIn : List Page → ℕ → ℕ → Decoded
 meaningIn [] p w = Nothing
 meaningIn (r ∷ rs) zero w = means r w
 meaningIn (r ∷ rs) (suc p) w = meaningIn rs p w
 
-pub first-place : (rs : List Row) (w : ℕ) → first rs w ≡ meaningIn rs (placeIn rs w) w
+pub first-place : (rs : List Page) (w : ℕ) → first rs w ≡ meaningIn rs (placeIn rs w) w
 first-place [] w = refl
 first-place (r ∷ rs) w = go (has r w) (first-place rs w)
   where
@@ -33,7 +33,7 @@ first-place (r ∷ rs) w = go (has r w) (first-place rs w)
     go false e = e
 
 -- the places, from i on, of the pages with the upper byte u, each with its low byte as printed
-abbrev pub upperIn : ℕ → ℕ → List Row → List (ℕ × String)
+abbrev pub upperIn : ℕ → ℕ → List Page → List (ℕ × String)
 upperIn u i [] = []
 upperIn u i (r ∷ rs) = pick (fits (r .upper) 8 u) ((i, r .lower) ∷ upperIn u (suc i) rs) (upperIn u (suc i) rs)
 
@@ -42,7 +42,7 @@ lowerIn d [] low = d
 lowerIn d (e ∷ es) low = pick (lowFits (e .1) low) (e .0) (lowerIn d es low)
 
 -- by the upper byte first, and then by the lower
-pub by-bytes : (rs : List Row) (i w : ℕ) → lowerIn (i + length rs) (upperIn (w / 256) i rs) (w % 256) ≡ i + placeIn rs w
+pub by-bytes : (rs : List Page) (i w : ℕ) → lowerIn (i + length rs) (upperIn (w / 256) i rs) (w % 256) ≡ i + placeIn rs w
 by-bytes [] i w = refl
 by-bytes (r ∷ rs) i w =
     let a : i + suc (length rs) ≡ suc i + length rs = omega arith in

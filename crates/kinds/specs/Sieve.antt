@@ -8,7 +8,7 @@ use native.Mathlib.Nat.{div-one, div-div-eq-div-mul, pow-suc}
 use native.Mathlib.Omega.{arith}
 use lib.Dec.{T}
 use Rattle.instructions.specs.Every.{both-left, both-right}
-use Rattle.instructions.specs.Encoding.{Row, pick, both, printedAt, allows, fits}
+use Rattle.instructions.specs.Encoding.{Page, pick, both, printedAt, allows, fits}
 use Rattle.instructions.specs.Pages.{pages}
 use Rattle.instructions.specs.Places.{upperIn, pagesOf}
 
@@ -71,15 +71,15 @@ sieve-at {E} text f (suc k) q u es t h =
     go (suc (suc b)) e g0 g1 = absurd (omega (arith, e))
 
 -- the pages from place i on, each with its place
-abbrev pub placed : ℕ → List Row → List (ℕ × Row)
+abbrev pub placed : ℕ → List Page → List (ℕ × Page)
 placed i [] = []
 placed i (r ∷ rs) = (i, r) ∷ placed (suc i) rs
 
-abbrev pub upperText : (ℕ × Row) → String
+abbrev pub upperText : (ℕ × Page) → String
 upperText e = e .1 .upper
 
 -- the places of pages, each with its low byte as printed
-abbrev pub lowers : List (ℕ × Row) → List (ℕ × String)
+abbrev pub lowers : List (ℕ × Page) → List (ℕ × String)
 lowers [] = []
 lowers (e ∷ es) = (e .0, e .1 .lower) ∷ lowers es
 
@@ -87,7 +87,7 @@ lowers (e ∷ es) = (e .0, e .1 .lower) ∷ lowers es
 abbrev pub atUppers : (ℕ → List (ℕ × String) → Bool) → Bool
 atUppers f = sieve upperText (λ u es. f u (lowers es)) 8 0 (placed 0 pages)
 
-upper-fitting : (u i : ℕ) (rs : List Row) → lowers (fitting upperText 8 u (placed i rs)) ≡ upperIn u i rs
+upper-fitting : (u i : ℕ) (rs : List Page) → lowers (fitting upperText 8 u (placed i rs)) ≡ upperIn u i rs
 upper-fitting u i [] = refl
 upper-fitting u i (r ∷ rs) = go (fits (r .upper) 8 u) (upper-fitting u (suc i) rs)
   where

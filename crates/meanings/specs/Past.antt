@@ -9,7 +9,7 @@ use lib.Dec.{T, ltb, leb}
 use lib.ListN.{length}
 use borrow.Author.Tests.{lt-ltb, le-leb}
 use Rattle.instructions.specs.Every.{all-at}
-use Rattle.instructions.specs.Encoding.{Row, pick, both}
+use Rattle.instructions.specs.Encoding.{Page, pick, both}
 use Rattle.instructions.specs.Pages.{pages}
 use Rattle.instructions.specs.Places.{meaningIn, meaningAt}
 use Rattle.instructions.specs.declared.Decoded.{Decoded}
@@ -34,7 +34,7 @@ past-base p w lo hi =
     (rw b at
     (all-at (λ q. pick (both (leb 75 q) (ltb q 133)) (published (meaningIn pages q w)) true) 8 0 p tt (omega arith) (omega arith)))
 
-past-end : (rs : List Row) (p w : ℕ) → length rs ≤ p → meaningIn rs p w ≡ Nothing
+past-end : (rs : List Page) (p w : ℕ) → length rs ≤ p → meaningIn rs p w ≡ Nothing
 past-end [] p w h = refl
 past-end (r ∷ rs) zero w h = absurd (not-suc-le-zero h)
 past-end (r ∷ rs) (suc p) w h = past-end rs p w (le-of-suc-le-suc h)

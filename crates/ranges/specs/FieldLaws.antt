@@ -10,7 +10,7 @@ use Rattle.dma.specs.declared.NextArp.the-variants.{Same, To}
 use Rattle.dma.specs.declared.Address.the-variants as Mode
 use Rattle.instructions.specs.declared.Decoded.{Decoded}
 use Rattle.instructions.specs.declared.Decoded.the-variants.{Base, Published, Nothing}
-use Rattle.instructions.specs.Encoding.{Row, pick, both, has, means, first, addressModeOf, indirectOf, nextOf}
+use Rattle.instructions.specs.Encoding.{Page, pick, both, has, means, first, addressModeOf, indirectOf, nextOf}
 use Rattle.instructions.specs.Pages.{accumulatorPages, multiplierPages, auxiliaryPages, branchPages, transferPages, modePages, basePages, otherPages, pages}
 use Rattle.instructions.specs.Decode.{decodeOf}
 use Rattle.instructions.specs.Every.{both-left, both-right}
@@ -41,11 +41,11 @@ address-fits low = by (ltb low 128) refl
     by false e = indirect-fits low
 
 -- whatever the word, what each page of a list makes of it has fields within their widths
-RowsFit : List Row → Type 0
+RowsFit : List Page → Type 0
 RowsFit [] = Unit {0}
 RowsFit (r ∷ rs) = ((w : ℕ) → DecodedFits (means r w)) × RowsFit rs
 
-joined : (a b : List Row) → RowsFit a → RowsFit b → RowsFit (a ++ b)
+joined : (a b : List Page) → RowsFit a → RowsFit b → RowsFit (a ++ b)
 unfolding RowsFit
 joined [] b f g = g
 joined (r ∷ a) b f g = f .0 and joined a b (f .1) g
@@ -166,7 +166,7 @@ mode-pages =
     and tt
 
 -- the pages that are not in the base have no instruction, whatever the word
-allPublished : List Row → ℕ → Bool
+allPublished : List Page → ℕ → Bool
 allPublished [] w = true
 allPublished (r ∷ rs) w = both (isPublished (means r w)) (allPublished rs w)
 
@@ -175,7 +175,7 @@ published-fits (Base i) t = absurd t
 published-fits Published t = tt
 published-fits Nothing t = tt
 
-others-fit : (rs : List Row) → ((w : ℕ) → T (allPublished rs w)) → RowsFit rs
+others-fit : (rs : List Page) → ((w : ℕ) → T (allPublished rs w)) → RowsFit rs
 unfolding RowsFit allPublished
 others-fit [] t = tt
 others-fit (r ∷ rs) t =
@@ -196,7 +196,7 @@ pages-fit =
     (joined transferPages _ transfer-pages mode-pages)))))
     other-pages
 
-first-fits : (rs : List Row) (w : ℕ) → RowsFit rs → DecodedFits (first rs w)
+first-fits : (rs : List Page) (w : ℕ) → RowsFit rs → DecodedFits (first rs w)
 unfolding RowsFit
 first-fits [] w f = tt
 first-fits (r ∷ rs) w f = by (has r w) (first-fits rs w (f .1))
