@@ -9,12 +9,12 @@ use Rattle.board.specs.declared.Region.the-variants.{Absent, B2, B0, B1,
 use Rattle.board.specs.Regions.{within, dataRegion, present, onChipRegion, dataPresent, onChip, moveAllowed, inRom, inProgramB0, programPresent}
 use Rattle.board.specs.RegionFacts.{Lies, Moves, InProgramB0}
 
-pub both : (t u : Bool) → t && u ≡ true → (t ≡ true) × (u ≡ true)
-both true u h = (refl, h)
-both false u h = absurd (false≢true h)
+pub both-hold : (t u : Bool) → t && u ≡ true → (t ≡ true) × (u ≡ true)
+both-hold true u h = (refl, h)
+both-hold false u h = absurd (false≢true h)
 
 bounds : (first last a : ℕ) → within first last a ≡ true → (first ≤ a) × (a ≤ last)
-bounds first last a h = let p = both _ _ h in (leb-true _ _ (p .0), leb-true _ _ (p .1))
+bounds first last a h = let p = both-hold _ _ h in (leb-true _ _ (p .0), leb-true _ _ (p .1))
 
 case : (P : Region → Type 0) (t : Bool) (x rest : Region) → (t ≡ true → P x) → P rest → P (cond t x rest)
 case P true x rest f r = f refl
@@ -25,7 +25,7 @@ unfolding dataRegion
 region-lies cnf a =
     case (Lies cnf a) _ External _ (bounds 0x400 0xFFF a)
     (case (Lies cnf a) _ B2 _ (bounds 0x60 0x7F a)
-    (case (Lies cnf a) _ B0 _ (λ h. let p = both (within 0x200 0x2FF a) _ h in let b = bounds 0x200 0x2FF a (p .0) in (b .0, b .1, eqb-true _ _ (p .1)))
+    (case (Lies cnf a) _ B0 _ (λ h. let p = both-hold (within 0x200 0x2FF a) _ h in let b = bounds 0x200 0x2FF a (p .0) in (b .0, b .1, eqb-true _ _ (p .1)))
     (case (Lies cnf a) _ B1 Absent (bounds 0x300 0x3FF a) tt)))
 
 lies-below : (cnf a : ℕ) (r : Region) → Lies cnf a r → present r ≡ true → a < 4096
@@ -66,7 +66,7 @@ on-chip-below cnf a h = lies-on-chip cnf a (dataRegion cnf a) (region-lies cnf a
 pub moves : (cnf a : ℕ) → moveAllowed cnf a ≡ true → Moves cnf a
 unfolding moveAllowed
 moves cnf a h =
-    let p = both (onChip cnf a) _ h in
+    let p = both-hold (onChip cnf a) _ h in
     record { from = p .0; to = p .1; below = on-chip-below cnf (a + 1) (p .1) }
 
 pub rom-below : (a : ℕ) → inRom a ≡ true → a < 4096
@@ -76,7 +76,7 @@ rom-below a h = ltb-true _ _ h
 pub program-b0 : (cnf a : ℕ) → inProgramB0 cnf a ≡ true → InProgramB0 cnf a
 unfolding inProgramB0
 program-b0 cnf a h =
-    let p = both (within 0xFF00 0xFFFF a) _ h in
+    let p = both-hold (within 0xFF00 0xFFFF a) _ h in
     let b = bounds 0xFF00 0xFFFF a (p .0) in
     record { first = b .0; last = b .1; cnf-one = eqb-true _ _ (p .1) }
 

@@ -12,7 +12,7 @@ use denote.Ref.{RefT, ptr, now}
 use borrow.Author.Tests.{le-leb, lt-leb, leb-true, leb-false, eqb-true}
 use borrow.Rule.Slice.PartMut.{mid-len, post-is, put-same, set-mid-at, same-len-mid, take-put, drop-put}
 use Rattle.board.specs.Slices.{memoriesFit, portFits, slicesFit, partStart, pagePart, pageStored}
-use Rattle.board.specs.RegionLaws.{both}
+use Rattle.board.specs.RegionLaws.{both-hold}
 use Rattle.machine.specs.declared.Machine.{Machine}
 use Rattle.board.specs.SliceFacts.{MemoriesFit, PortFits, SlicesFit}
 use Rattle.board.specs.PageLent.{count, lent, written, rejoined}
@@ -114,18 +114,18 @@ address-set d address word h below =
 pub memories-fit : (rom d : List ℕ) → memoriesFit rom d ≡ true → MemoriesFit rom d
 unfolding memoriesFit
 memories-fit rom d h =
-    let p = both (eqb (length rom) 4096) _ h in
+    let p = both-hold (eqb (length rom) 4096) _ h in
     record { rom-size = eqb-true _ _ (p .0); data-size = eqb-true _ _ (p .1) }
 
 pub port-fits : (size cursor : ℕ) → portFits size cursor ≡ true → PortFits size cursor
 unfolding portFits
 port-fits size cursor h =
-    let p = both (leb size 1024) _ h in
+    let p = both-hold (leb size 1024) _ h in
     record { size-most = leb-true _ _ (p .0); not-past = leb-true _ _ (p .1) }
 
 pub slices-fit : (m : Machine) (rom d input : List ℕ) (outputLength : ℕ) → slicesFit m rom d input outputLength ≡ true → SlicesFit m rom d input outputLength
 unfolding slicesFit
 slices-fit m rom d input outputLength h =
-    let p = both (memoriesFit rom d && portFits (length input) (m .«input_cursor»)) _ h in
-    let q = both (memoriesFit rom d) _ (p .0) in
+    let p = both-hold (memoriesFit rom d && portFits (length input) (m .«input_cursor»)) _ h in
+    let q = both-hold (memoriesFit rom d) _ (p .0) in
     record { memories = memories-fit rom d (q .0); input-port = port-fits _ _ (q .1); output-port = port-fits _ _ (p .1) }

@@ -17,7 +17,7 @@ use Rattle.line.proofs.run_line.Reads as RunLine
 use Rattle.line.proofs.refused_line.Reads as RefusedLine
 use Rattle.replaying.proofs.replayed.Reads as Replayed
 use denote.Ref.{now}
-use Rattle.results.specs.One.{OneOutcome, OneResult, pair, same, both}
+use Rattle.results.specs.One.{OneOutcome, OneResult, pair, same, same-pair}
 
 pub word-at : OneResult WordAt.Post
 word-at κs a r r′ e e′ p q = same p q
@@ -41,13 +41,13 @@ pub set-up-answer : OneResult SetUpAnswer.Post
 set-up-answer κs a r r′ e e′ p q = same p q
 
 pub set-up : OneOutcome SetUp.Post (λ r e. pair r (pair (now (e .1 .0)) (pair (now (e .1 .1 .0)) (now (e .1 .1 .1 .0)))))
-set-up κs a r r′ e e′ p q = both (same (p .0) (q .0)) (both (same (p .1 .0) (q .1 .0)) (both (same (p .1 .1 .0) (q .1 .1 .0)) (same (p .1 .1 .1) (q .1 .1 .1))))
+set-up κs a r r′ e e′ p q = same-pair (same (p .0) (q .0)) (same-pair (same (p .1 .0) (q .1 .0)) (same-pair (same (p .1 .1 .0) (q .1 .1 .0)) (same (p .1 .1 .1) (q .1 .1 .1))))
 
 pub file-length : OneResult FileLength.Post
 file-length κs a r r′ e e′ p q = same p q
 
 pub write-file : OneOutcome WriteFile.Post (λ r e. pair r (now (e .1 .1 .1 .1 .0)))
-write-file κs a r r′ e e′ p q = both (same (p .0) (q .0)) (same (p .1) (q .1))
+write-file κs a r r′ e e′ p q = same-pair (same (p .0) (q .0)) (same (p .1) (q .1))
 
 pub digit : OneResult Digit.Post
 digit κs a r r′ e e′ p q = same p q
@@ -56,16 +56,16 @@ pub decimal-length : OneResult DecimalLength.Post
 decimal-length κs a r r′ e e′ p q = same p q
 
 pub fit-line : OneOutcome FitLine.Post (λ r e. pair r (now (e .0)))
-fit-line κs a r r′ e e′ p q = both (same (p .0) (q .0)) (same (p .1) (q .1))
+fit-line κs a r r′ e e′ p q = same-pair (same (p .0) (q .0)) (same (p .1) (q .1))
 
 pub fit-number : OneOutcome FitNumber.Post (λ r e. pair r (now (e .0)))
-fit-number κs a r r′ e e′ p q = both (same (p .0) (q .0)) (same (p .1) (q .1))
+fit-number κs a r r′ e e′ p q = same-pair (same (p .0) (q .0)) (same (p .1) (q .1))
 
 pub run-line : OneOutcome RunLine.Post (λ r e. pair r (now (e .1 .1 .1 .1 .0)))
-run-line κs a r r′ e e′ p q = both (same (p .0) (q .0)) (same (p .1) (q .1))
+run-line κs a r r′ e e′ p q = same-pair (same (p .0) (q .0)) (same (p .1) (q .1))
 
 pub refused-line : OneOutcome RefusedLine.Post (λ r e. pair r (now (e .1 .0)))
-refused-line κs a r r′ e e′ p q = both (same (p .0) (q .0)) (same (p .1) (q .1))
+refused-line κs a r r′ e e′ p q = same-pair (same (p .0) (q .0)) (same (p .1) (q .1))
 
 pub replayed : OneOutcome Replayed.Post (λ r e. pair r (now (e .1 .1 .0)))
-replayed κs a r r′ e e′ p q = both (same (p .0) (q .0)) (same (p .1) (q .1))
+replayed κs a r r′ e e′ p q = same-pair (same (p .0) (q .0)) (same (p .1) (q .1))

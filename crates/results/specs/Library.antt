@@ -30,7 +30,7 @@ use Rattle.shown.specs.Shown.{placed}
 use Rattle.desktop.specs.Calls.{Called, RunCalled, called}
 use Prim.Native.Nat.{ℕ}
 use denote.Ref.{now}
-use Rattle.results.specs.One.{OneOutcome, OneResult, pair, same, both}
+use Rattle.results.specs.One.{OneOutcome, OneResult, pair, same, same-pair}
 
 -- what a call of `run` shows
 abbrev runShown : ℕ → Called → RunCalled
@@ -61,25 +61,25 @@ pub cells-number : OneResult CellsNumber.Post
 cells-number κs a r r′ e e′ p q = same p q
 
 pub refused-run : OneOutcome RefusedRun.Post (λ r e. pair r (now (e .1 .0)))
-refused-run κs a r r′ e e′ p q = both (same (p .0) (q .0)) (same (p .1) (q .1))
+refused-run κs a r r′ e e′ p q = same-pair (same (p .0) (q .0)) (same (p .1) (q .1))
 
 pub reset-cells : OneOutcome ResetCells.Post (λ r e. pair r (now (e .0)))
-reset-cells κs a r r′ e e′ p q = both (same (p .0) (q .0)) (same (p .1) (q .1))
+reset-cells κs a r r′ e e′ p q = same-pair (same (p .0) (q .0)) (same (p .1) (q .1))
 
 pub put-step : OneOutcome PutStep.Post (λ r e. pair r (now (e .0)))
-put-step κs a r r′ e e′ p q = both (same (p .0) (q .0)) (same (p .1) (q .1))
+put-step κs a r r′ e e′ p q = same-pair (same (p .0) (q .0)) (same (p .1) (q .1))
 
 pub put-run : OneOutcome PutRun.Post (λ r e. pair r (pair (now (e .0)) (now (e .1 .1 .1 .1 .0))))
-put-run κs a r r′ e e′ p q = both (same (p .0) (q .0)) (both (same (p .1 .0) (q .1 .0)) (same (p .1 .1) (q .1 .1)))
+put-run κs a r r′ e e′ p q = same-pair (same (p .0) (q .0)) (same-pair (same (p .1 .0) (q .1 .0)) (same (p .1 .1) (q .1 .1)))
 
 pub read-counts : OneOutcome ReadCounts.Post (λ r e. pair r (pair (now (e .1 .0)) (now (e .1 .1 .0))))
-read-counts κs a r r′ e e′ p q = both (same (p .0) (q .0)) (both (same (p .1 .0) (q .1 .0)) (same (p .1 .1) (q .1 .1)))
+read-counts κs a r r′ e e′ p q = same-pair (same (p .0) (q .0)) (same-pair (same (p .1 .0) (q .1 .0)) (same (p .1 .1) (q .1 .1)))
 
 pub set-up-slices : OneOutcome SetUpSlices.Post (λ r e. pair r (lent (now (e .1 .0)) (now (e .1 .1 .0)) (now (e .1 .1 .1 .0))))
-set-up-slices κs a r r′ e e′ p q = both (same (p .0) (q .0)) (same (p .1) (q .1))
+set-up-slices κs a r r′ e e′ p q = same-pair (same (p .0) (q .0)) (same (p .1) (q .1))
 
 pub write-counted : OneOutcome WriteCounted.Post (λ r e. pair r (pair (now (e .1 .1 .1 .1 .0)) (now (e .1 .1 .1 .1 .1 .0))))
-write-counted κs a r r′ e e′ p q = both (same (p .0) (q .0)) (both (same (p .1 .0) (q .1 .0)) (same (p .1 .1) (q .1 .1)))
+write-counted κs a r r′ e e′ p q = same-pair (same (p .0) (q .0)) (same-pair (same (p .1 .0) (q .1 .0)) (same (p .1 .1) (q .1 .1)))
 
 pub count-sent : OneOutcome CountSent.Post (λ r e. counted r (now (e .1 .1 .0)))
 count-sent κs a r r′ e e′ p q = same p q
@@ -88,16 +88,16 @@ pub place-window : OneOutcome PlaceWindow.Post (λ r e. placed r (now (e .1 .1 .
 place-window κs a r r′ e e′ p q = same p q
 
 pub crowmitten-read : OneOutcome CrowmittenRead.Post (λ r e. pair r (pair (now (e .1 .0)) (now (e .1 .1 .0))))
-crowmitten-read κs a r r′ e e′ p q = both (same (p .0) (q .0)) (both (same (p .1 .0) (q .1 .0)) (same (p .1 .1) (q .1 .1)))
+crowmitten-read κs a r r′ e e′ p q = same-pair (same (p .0) (q .0)) (same-pair (same (p .1 .0) (q .1 .0)) (same (p .1 .1) (q .1 .1)))
 
 pub crowmitten-set-up : OneOutcome CrowmittenSetUp.Post (λ r e. pair r (lent (now (e .1 .0)) (now (e .1 .1 .0)) (now (e .1 .1 .1 .0))))
-crowmitten-set-up κs a r r′ e e′ p q = both (same (p .0) (q .0)) (same (p .1) (q .1))
+crowmitten-set-up κs a r r′ e e′ p q = same-pair (same (p .0) (q .0)) (same (p .1) (q .1))
 
 pub crowmitten-write : OneOutcome CrowmittenWrite.Post (λ r e. pair r (pair (now (e .1 .1 .1 .1 .0)) (now (e .1 .1 .1 .1 .1 .0))))
-crowmitten-write κs a r r′ e e′ p q = both (same (p .0) (q .0)) (both (same (p .1 .0) (q .1 .0)) (same (p .1 .1) (q .1 .1)))
+crowmitten-write κs a r r′ e e′ p q = same-pair (same (p .0) (q .0)) (same-pair (same (p .1 .0) (q .1 .0)) (same (p .1 .1) (q .1 .1)))
 
 pub crowmitten-reset : OneOutcome CrowmittenReset.Post (λ r e. pair r (now (e .0)))
-crowmitten-reset κs a r r′ e e′ p q = both (same (p .0) (q .0)) (same (p .1) (q .1))
+crowmitten-reset κs a r r′ e e′ p q = same-pair (same (p .0) (q .0)) (same (p .1) (q .1))
 
 pub crowmitten-step : OneOutcome CrowmittenStep.Post (λ r e. called r (now (e .0)) (now (e .1 .1 .0)) (now (e .1 .1 .1 .1 .0)))
 crowmitten-step κs a r r′ e e′ p q = same p q

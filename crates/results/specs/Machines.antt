@@ -43,7 +43,7 @@ use Rattle.windows.proofs.window.Reads as Window
 use Rattle.windows.proofs.words_sent_answer.Reads as WordsSentAnswer
 use Rattle.windows.proofs.words_sent.Reads as WordsSent
 use denote.Ref.{now}
-use Rattle.results.specs.One.{OneOutcome, OneResult, OnePart, same, both}
+use Rattle.results.specs.One.{OneOutcome, OneResult, OnePart, same, same-pair}
 
 pub pushed : OneResult Pushed.Post
 pushed κs a r r′ e e′ p q = same p q
@@ -145,7 +145,7 @@ pub slices-fit : OneResult SlicesFit.Post
 slices-fit κs a r r′ e e′ p q = same p q
 
 pub part : OnePart Part.Post
-part κs a r r′ e e′ p q = both (same (p .0) (q .0)) (same (p .1) (q .1))
+part κs a r r′ e e′ p q = same-pair (same (p .0) (q .0)) (same (p .1) (q .1))
 
 pub data-word : OneResult DataWord.Post
 data-word κs a r r′ e e′ p q = same p q
@@ -160,16 +160,16 @@ pub slices-store-word : OneOutcome SlicesStoreWord.Post (λ r e. now (e .0))
 slices-store-word κs a r r′ e e′ p q = same p q
 
 pub region-window : OnePart RegionWindow.Post
-region-window κs a r r′ e e′ p q = both (same (p .0) (q .0)) (same (p .1) (q .1))
+region-window κs a r r′ e e′ p q = same-pair (same (p .0) (q .0)) (same (p .1) (q .1))
 
 pub window-answer : OneResult WindowAnswer.Post
 window-answer κs a r r′ e e′ p q = same p q
 
 pub window : OnePart Window.Post
-window κs a r r′ e e′ p q = both (same (p .0) (q .0)) (same (p .1) (q .1))
+window κs a r r′ e e′ p q = same-pair (same (p .0) (q .0)) (same (p .1) (q .1))
 
 pub words-sent-answer : OneResult WordsSentAnswer.Post
 words-sent-answer κs a r r′ e e′ p q = same p q
 
 pub words-sent : OnePart WordsSent.Post
-words-sent κs a r r′ e e′ p q = both (same (p .0) (q .0)) (same (p .1) (q .1))
+words-sent κs a r r′ e e′ p q = same-pair (same (p .0) (q .0)) (same (p .1) (q .1))

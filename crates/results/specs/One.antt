@@ -23,5 +23,5 @@ pair x y = (x, y)
 abbrev pub OnePart : {K A E X : Type 0} → (K → A → RefT X → E → Type 0) → Type 0
 OnePart Post = OneOutcome Post (λ r e. pair (now r) (ptr r))
 
-pub both : {X Y : Type 0} {x x′ : X} {y y′ : Y} → x ≡ x′ → y ≡ y′ → pair x y ≡ pair x′ y′
-both p q = λ i. (p i, q i)
+pub same-pair : {X Y : Type 0} {x x′ : X} {y y′ : Y} → x ≡ x′ → y ≡ y′ → pair x y ≡ pair x′ y′
+same-pair p q = λ i. (p i, q i)
