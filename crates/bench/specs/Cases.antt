@@ -17,8 +17,8 @@ pub record Case : Type 0 where
   pub named : Outcome → List ℕ
   pub expected : List ℕ
 
-abbrev pub placed : ℕ
-placed = 0x60
+abbrev pub dataAddress : ℕ
+dataAddress = 0x60
 
 -- a memory of 4,096 words that are 0 but for one
 abbrev holding : ℕ → ℕ → List ℕ
@@ -26,7 +26,7 @@ holding address word = set (replicate 4096 0) address word
 
 -- what the step of a case leaves
 abbrev pub left : Case → Outcome
-left c = stepOf (holding 0 (c .instruction)) [] (record { m = c .m; «data» = holding placed (c .dataWord); output = [] })
+left c = stepOf (holding 0 (c .instruction)) [] (record { m = c .m; «data» = holding dataAddress (c .dataWord); output = [] })
 
 -- M1 SQRA: word 0Fh, P 12Ch, ACC 1F4h, PM 0: T 0Fh, P E1h, ACC 320h, C 0
 abbrev m1 : Case
@@ -54,7 +54,7 @@ m3-sph = record {
   instruction = 0x7D60;
   m = withPm (withP resetMachine 0xFE07_9844) 2;
   dataWord = 0x4567;
-  named = λ o. numberOf (o .answer) ∷ getD (o .world .«data») placed 0 ∷ [];
+  named = λ o. numberOf (o .answer) ∷ getD (o .world .«data») dataAddress 0 ∷ [];
   expected = 0 ∷ 0xE079 ∷ [];
 }
 
@@ -64,7 +64,7 @@ m3-spl = record {
   instruction = 0x7C60;
   m = withPm (withP resetMachine 0xFE07_9844) 2;
   dataWord = 0x4567;
-  named = λ o. numberOf (o .answer) ∷ getD (o .world .«data») placed 0 ∷ [];
+  named = λ o. numberOf (o .answer) ∷ getD (o .world .«data») dataAddress 0 ∷ [];
   expected = 0 ∷ 0x8440 ∷ [];
 }
 

@@ -71,9 +71,9 @@ sieve-at {E} text f (suc k) q u es t h =
     go (suc (suc b)) e g0 g1 = absurd (omega (arith, e))
 
 -- the pages from place i on, each with its place
-abbrev pub placed : ℕ → List Page → List (ℕ × Page)
-placed i [] = []
-placed i (r ∷ rs) = (i, r) ∷ placed (suc i) rs
+abbrev pub withPlaces : ℕ → List Page → List (ℕ × Page)
+withPlaces i [] = []
+withPlaces i (r ∷ rs) = (i, r) ∷ withPlaces (suc i) rs
 
 abbrev pub upperText : (ℕ × Page) → String
 upperText e = e .1 .upper
@@ -85,14 +85,14 @@ lowers (e ∷ es) = (e .0, e .1 .lower) ∷ lowers es
 
 -- f passes at every upper byte with the pages that have it
 abbrev pub atUppers : (ℕ → List (ℕ × String) → Bool) → Bool
-atUppers f = sieve upperText (λ u es. f u (lowers es)) 8 0 (placed 0 pages)
+atUppers f = sieve upperText (λ u es. f u (lowers es)) 8 0 (withPlaces 0 pages)
 
-upper-fitting : (u i : ℕ) (rs : List Page) → lowers (fitting upperText 8 u (placed i rs)) ≡ upperIn u i rs
+upper-fitting : (u i : ℕ) (rs : List Page) → lowers (fitting upperText 8 u (withPlaces i rs)) ≡ upperIn u i rs
 upper-fitting u i [] = refl
 upper-fitting u i (r ∷ rs) = go (fits (r .upper) 8 u) (upper-fitting u (suc i) rs)
   where
-    go : (b : Bool) → lowers (fitting upperText 8 u (placed (suc i) rs)) ≡ upperIn u (suc i) rs
-        → lowers (pick b ((i, r) ∷ fitting upperText 8 u (placed (suc i) rs)) (fitting upperText 8 u (placed (suc i) rs)))
+    go : (b : Bool) → lowers (fitting upperText 8 u (withPlaces (suc i) rs)) ≡ upperIn u (suc i) rs
+        → lowers (pick b ((i, r) ∷ fitting upperText 8 u (withPlaces (suc i) rs)) (fitting upperText 8 u (withPlaces (suc i) rs)))
         ≡ pick b ((i, r .lower) ∷ upperIn u (suc i) rs) (upperIn u (suc i) rs)
     go true h = ap (λ (zs : List (ℕ × String)). (i, r .lower) ∷ zs) h
     go false h = h
@@ -101,4 +101,4 @@ pub upper-at : (f : ℕ → List (ℕ × String) → Bool) → T (atUppers f) �
 unfolding pagesOf
 upper-at f t u h =
     subst (λ (zs : List (ℕ × String)). T (f u zs)) (upper-fitting u 0 pages)
-    (sieve-at upperText (λ u es. f u (lowers es)) 8 0 u (placed 0 pages) t (omega arith))
+    (sieve-at upperText (λ u es. f u (lowers es)) 8 0 u (withPlaces 0 pages) t (omega arith))

@@ -64,182 +64,182 @@ use Rattle.laws.specs.Laws.{rowsOf, NoneHolds, recounted, workOf, effect
 use Rattle.laws.specs.Steps.{_and_, row-not, step-world, row-given}
 
 -- the machine with another RPTC and another PC
-abbrev placed : Machine → ℕ → ℕ → Machine
-placed m n pc = withPc (withRptc m n) pc
+abbrev countedAt : Machine → ℕ → ℕ → Machine
+countedAt m n pc = withPc (withRptc m n) pc
 
 -- what a rule gives that neither reads nor changes RPTC and PC, and sends PC nowhere
 abbrev uncounted : Effect → ℕ → ℕ → Effect
-uncounted e n pc = record { m = placed (e .m) n pc; store = e .store; jump = Jump.Past }
+uncounted e n pc = record { m = countedAt (e .m) n pc; store = e .store; jump = Jump.Past }
 
-accumulator-placed : (i : Accumulator) (m : Machine) (w : ℕ) (n pc : ℕ) → accumulatorTraits i .repeatable ≡ true
-    → accumulatorRule i (placed m n pc) w ≡ uncounted (accumulatorRule i m w) n pc
+accumulator-counted : (i : Accumulator) (m : Machine) (w : ℕ) (n pc : ℕ) → accumulatorTraits i .repeatable ≡ true
+    → accumulatorRule i (countedAt m n pc) w ≡ uncounted (accumulatorRule i m w) n pc
 unfolding accumulatorTraits accumulatorRule ADD SUB LAC ADDH ADDS SUBH SUBS SUBC ZALH ZALS AND OR XOR SACL SACH LACK ADDK SUBK CMPL NEG ABS SFL SFR
-accumulator-placed (Accumulator.Add k a) m w n pc h = refl
-accumulator-placed (Accumulator.Sub k a) m w n pc h = refl
-accumulator-placed (Accumulator.Lac k a) m w n pc h = refl
-accumulator-placed (Accumulator.Addh a) m w n pc h = refl
-accumulator-placed (Accumulator.Adds a) m w n pc h = refl
-accumulator-placed (Accumulator.Subh a) m w n pc h = refl
-accumulator-placed (Accumulator.Subs a) m w n pc h = refl
-accumulator-placed (Accumulator.Subc a) m w n pc h = refl
-accumulator-placed (Accumulator.Zalh a) m w n pc h = refl
-accumulator-placed (Accumulator.Zals a) m w n pc h = refl
-accumulator-placed (Accumulator.And a) m w n pc h = refl
-accumulator-placed (Accumulator.Or a) m w n pc h = refl
-accumulator-placed (Accumulator.Xor a) m w n pc h = refl
-accumulator-placed (Accumulator.Sacl k a) m w n pc h = refl
-accumulator-placed (Accumulator.Sach k a) m w n pc h = refl
-accumulator-placed (Accumulator.Lack k) m w n pc h = absurd (false≢true h)
-accumulator-placed (Accumulator.Addk k) m w n pc h = absurd (false≢true h)
-accumulator-placed (Accumulator.Subk k) m w n pc h = absurd (false≢true h)
-accumulator-placed Accumulator.Cmpl m w n pc h = refl
-accumulator-placed Accumulator.Neg m w n pc h = refl
-accumulator-placed Accumulator.Abs m w n pc h = refl
-accumulator-placed Accumulator.Sfl m w n pc h = refl
-accumulator-placed Accumulator.Sfr m w n pc h = refl
+accumulator-counted (Accumulator.Add k a) m w n pc h = refl
+accumulator-counted (Accumulator.Sub k a) m w n pc h = refl
+accumulator-counted (Accumulator.Lac k a) m w n pc h = refl
+accumulator-counted (Accumulator.Addh a) m w n pc h = refl
+accumulator-counted (Accumulator.Adds a) m w n pc h = refl
+accumulator-counted (Accumulator.Subh a) m w n pc h = refl
+accumulator-counted (Accumulator.Subs a) m w n pc h = refl
+accumulator-counted (Accumulator.Subc a) m w n pc h = refl
+accumulator-counted (Accumulator.Zalh a) m w n pc h = refl
+accumulator-counted (Accumulator.Zals a) m w n pc h = refl
+accumulator-counted (Accumulator.And a) m w n pc h = refl
+accumulator-counted (Accumulator.Or a) m w n pc h = refl
+accumulator-counted (Accumulator.Xor a) m w n pc h = refl
+accumulator-counted (Accumulator.Sacl k a) m w n pc h = refl
+accumulator-counted (Accumulator.Sach k a) m w n pc h = refl
+accumulator-counted (Accumulator.Lack k) m w n pc h = absurd (false≢true h)
+accumulator-counted (Accumulator.Addk k) m w n pc h = absurd (false≢true h)
+accumulator-counted (Accumulator.Subk k) m w n pc h = absurd (false≢true h)
+accumulator-counted Accumulator.Cmpl m w n pc h = refl
+accumulator-counted Accumulator.Neg m w n pc h = refl
+accumulator-counted Accumulator.Abs m w n pc h = refl
+accumulator-counted Accumulator.Sfl m w n pc h = refl
+accumulator-counted Accumulator.Sfr m w n pc h = refl
 
-multiplier-placed : (i : Multiplier) (m : Machine) (w table at : ℕ) (n pc : ℕ) → multiplierTraits i .repeatable ≡ true
-    → multiplierRule i (placed m n pc) w table at ≡ uncounted (multiplierRule i m w table at) n pc
+multiplier-counted : (i : Multiplier) (m : Machine) (w table at : ℕ) (n pc : ℕ) → multiplierTraits i .repeatable ≡ true
+    → multiplierRule i (countedAt m n pc) w table at ≡ uncounted (multiplierRule i m w table at) n pc
 unfolding multiplierTraits multiplierRule LT LTA LTP LTD LTS MPY MPYA MPYS MPYK SQRA SQRS MAC MACD PAC APAC SPAC SPL SPH SPM
-multiplier-placed (Multiplier.Lt a) m w table at n pc h = refl
-multiplier-placed (Multiplier.Lta a) m w table at n pc h = refl
-multiplier-placed (Multiplier.Ltp a) m w table at n pc h = refl
-multiplier-placed (Multiplier.Ltd a) m w table at n pc h = refl
-multiplier-placed (Multiplier.Lts a) m w table at n pc h = refl
-multiplier-placed (Multiplier.Mpy a) m w table at n pc h = refl
-multiplier-placed (Multiplier.Mpya a) m w table at n pc h = refl
-multiplier-placed (Multiplier.Mpys a) m w table at n pc h = refl
-multiplier-placed (Multiplier.Mpyk k) m w table at n pc h = absurd (false≢true h)
-multiplier-placed (Multiplier.Sqra a) m w table at n pc h = refl
-multiplier-placed (Multiplier.Sqrs a) m w table at n pc h = refl
-multiplier-placed (Multiplier.Mac a) m w table at n pc h = refl
-multiplier-placed (Multiplier.Macd a) m w table at n pc h = refl
-multiplier-placed Multiplier.Pac m w table at n pc h = refl
-multiplier-placed Multiplier.Apac m w table at n pc h = refl
-multiplier-placed Multiplier.Spac m w table at n pc h = refl
-multiplier-placed (Multiplier.Spl a) m w table at n pc h = refl
-multiplier-placed (Multiplier.Sph a) m w table at n pc h = refl
-multiplier-placed (Multiplier.Spm k) m w table at n pc h = absurd (false≢true h)
+multiplier-counted (Multiplier.Lt a) m w table at n pc h = refl
+multiplier-counted (Multiplier.Lta a) m w table at n pc h = refl
+multiplier-counted (Multiplier.Ltp a) m w table at n pc h = refl
+multiplier-counted (Multiplier.Ltd a) m w table at n pc h = refl
+multiplier-counted (Multiplier.Lts a) m w table at n pc h = refl
+multiplier-counted (Multiplier.Mpy a) m w table at n pc h = refl
+multiplier-counted (Multiplier.Mpya a) m w table at n pc h = refl
+multiplier-counted (Multiplier.Mpys a) m w table at n pc h = refl
+multiplier-counted (Multiplier.Mpyk k) m w table at n pc h = absurd (false≢true h)
+multiplier-counted (Multiplier.Sqra a) m w table at n pc h = refl
+multiplier-counted (Multiplier.Sqrs a) m w table at n pc h = refl
+multiplier-counted (Multiplier.Mac a) m w table at n pc h = refl
+multiplier-counted (Multiplier.Macd a) m w table at n pc h = refl
+multiplier-counted Multiplier.Pac m w table at n pc h = refl
+multiplier-counted Multiplier.Apac m w table at n pc h = refl
+multiplier-counted Multiplier.Spac m w table at n pc h = refl
+multiplier-counted (Multiplier.Spl a) m w table at n pc h = refl
+multiplier-counted (Multiplier.Sph a) m w table at n pc h = refl
+multiplier-counted (Multiplier.Spm k) m w table at n pc h = absurd (false≢true h)
 
-auxiliary-placed : (i : Auxiliary) (before m : Machine) (w : ℕ) (n pc : ℕ) → auxiliaryTraits i .repeatable ≡ true
-    → auxiliaryRule i (placed before n pc) (placed m n pc) w ≡ uncounted (auxiliaryRule i before m w) n pc
+auxiliary-counted : (i : Auxiliary) (before m : Machine) (w : ℕ) (n pc : ℕ) → auxiliaryTraits i .repeatable ≡ true
+    → auxiliaryRule i (countedAt before n pc) (countedAt m n pc) w ≡ uncounted (auxiliaryRule i before m w) n pc
 unfolding auxiliaryTraits auxiliaryRule LAR SAR LARK MAR ADRK SBRK LDP LDPK
-auxiliary-placed (Auxiliary.Lar k a) before m w n pc h = refl
-auxiliary-placed (Auxiliary.Sar k a) before m w n pc h = refl
-auxiliary-placed (Auxiliary.Lark r k) before m w n pc h = absurd (false≢true h)
-auxiliary-placed (Auxiliary.Mar a) before m w n pc h = refl
-auxiliary-placed (Auxiliary.Adrk k) before m w n pc h = absurd (false≢true h)
-auxiliary-placed (Auxiliary.Sbrk k) before m w n pc h = absurd (false≢true h)
-auxiliary-placed (Auxiliary.Ldp a) before m w n pc h = refl
-auxiliary-placed (Auxiliary.Ldpk k) before m w n pc h = absurd (false≢true h)
+auxiliary-counted (Auxiliary.Lar k a) before m w n pc h = refl
+auxiliary-counted (Auxiliary.Sar k a) before m w n pc h = refl
+auxiliary-counted (Auxiliary.Lark r k) before m w n pc h = absurd (false≢true h)
+auxiliary-counted (Auxiliary.Mar a) before m w n pc h = refl
+auxiliary-counted (Auxiliary.Adrk k) before m w n pc h = absurd (false≢true h)
+auxiliary-counted (Auxiliary.Sbrk k) before m w n pc h = absurd (false≢true h)
+auxiliary-counted (Auxiliary.Ldp a) before m w n pc h = refl
+auxiliary-counted (Auxiliary.Ldpk k) before m w n pc h = absurd (false≢true h)
 
-modes-placed : (i : Modes) (m : Machine) (w : ℕ) (n pc : ℕ) → modesTraits i .repeatable ≡ true
-    → modesRule i (placed m n pc) w ≡ uncounted (modesRule i m w) n pc
+modes-counted : (i : Modes) (m : Machine) (w : ℕ) (n pc : ℕ) → modesTraits i .repeatable ≡ true
+    → modesRule i (countedAt m n pc) w ≡ uncounted (modesRule i m w) n pc
 unfolding modesTraits modesRule SOVM ROVM SSXM RSXM CNFD CNFP RPT RPTK PUSH POP
-modes-placed Modes.Sovm m w n pc h = refl
-modes-placed Modes.Rovm m w n pc h = refl
-modes-placed Modes.Ssxm m w n pc h = refl
-modes-placed Modes.Rsxm m w n pc h = refl
-modes-placed Modes.Cnfd m w n pc h = refl
-modes-placed Modes.Cnfp m w n pc h = refl
-modes-placed (Modes.Rpt a) m w n pc h = absurd (false≢true h)
-modes-placed (Modes.Rptk k) m w n pc h = absurd (false≢true h)
-modes-placed Modes.Push m w n pc h = refl
-modes-placed Modes.Pop m w n pc h = refl
+modes-counted Modes.Sovm m w n pc h = refl
+modes-counted Modes.Rovm m w n pc h = refl
+modes-counted Modes.Ssxm m w n pc h = refl
+modes-counted Modes.Rsxm m w n pc h = refl
+modes-counted Modes.Cnfd m w n pc h = refl
+modes-counted Modes.Cnfp m w n pc h = refl
+modes-counted (Modes.Rpt a) m w n pc h = absurd (false≢true h)
+modes-counted (Modes.Rptk k) m w n pc h = absurd (false≢true h)
+modes-counted Modes.Push m w n pc h = refl
+modes-counted Modes.Pop m w n pc h = refl
 
-branches-placed : (i : Branches) (before m : Machine) (pma : ℕ) (n pc : ℕ) → branchesTraits i .repeatable ≡ true
-    → branchesRule i (placed before n pc) (placed m n pc) pma ≡ uncounted (branchesRule i before m pma) n pc
+branches-counted : (i : Branches) (before m : Machine) (pma : ℕ) (n pc : ℕ) → branchesTraits i .repeatable ≡ true
+    → branchesRule i (countedAt before n pc) (countedAt m n pc) pma ≡ uncounted (branchesRule i before m pma) n pc
 unfolding branchesTraits branchesRule
-branches-placed (Branches.B i) before m pma n pc h = absurd (false≢true h)
-branches-placed (Branches.Banz i) before m pma n pc h = absurd (false≢true h)
-branches-placed (Branches.Bz i) before m pma n pc h = absurd (false≢true h)
-branches-placed (Branches.Bnz i) before m pma n pc h = absurd (false≢true h)
-branches-placed (Branches.Bgz i) before m pma n pc h = absurd (false≢true h)
-branches-placed (Branches.Bgez i) before m pma n pc h = absurd (false≢true h)
-branches-placed (Branches.Blz i) before m pma n pc h = absurd (false≢true h)
-branches-placed (Branches.Blez i) before m pma n pc h = absurd (false≢true h)
-branches-placed (Branches.Bv i) before m pma n pc h = absurd (false≢true h)
-branches-placed (Branches.Bnv i) before m pma n pc h = absurd (false≢true h)
-branches-placed (Branches.Call i) before m pma n pc h = absurd (false≢true h)
-branches-placed Branches.Ret before m pma n pc h = absurd (false≢true h)
+branches-counted (Branches.B i) before m pma n pc h = absurd (false≢true h)
+branches-counted (Branches.Banz i) before m pma n pc h = absurd (false≢true h)
+branches-counted (Branches.Bz i) before m pma n pc h = absurd (false≢true h)
+branches-counted (Branches.Bnz i) before m pma n pc h = absurd (false≢true h)
+branches-counted (Branches.Bgz i) before m pma n pc h = absurd (false≢true h)
+branches-counted (Branches.Bgez i) before m pma n pc h = absurd (false≢true h)
+branches-counted (Branches.Blz i) before m pma n pc h = absurd (false≢true h)
+branches-counted (Branches.Blez i) before m pma n pc h = absurd (false≢true h)
+branches-counted (Branches.Bv i) before m pma n pc h = absurd (false≢true h)
+branches-counted (Branches.Bnv i) before m pma n pc h = absurd (false≢true h)
+branches-counted (Branches.Call i) before m pma n pc h = absurd (false≢true h)
+branches-counted Branches.Ret before m pma n pc h = absurd (false≢true h)
 
-transfers-placed : (i : Transfers) (m : Machine) (w : ℕ) (dry : Bool) (next : ℕ) (n pc : ℕ) → transfersTraits i .repeatable ≡ true
-    → transfersRule i (placed m n pc) w dry next ≡ uncounted (transfersRule i m w dry next) n pc
+transfers-counted : (i : Transfers) (m : Machine) (w : ℕ) (dry : Bool) (next : ℕ) (n pc : ℕ) → transfersTraits i .repeatable ≡ true
+    → transfersRule i (countedAt m n pc) w dry next ≡ uncounted (transfersRule i m w dry next) n pc
 unfolding transfersTraits transfersRule DMOV IN OUT
-transfers-placed (Transfers.Dmov a) m w dry next n pc h = refl
-transfers-placed (Transfers.In port a) m w true next n pc h = refl
-transfers-placed (Transfers.In port a) m w false next n pc h = refl
-transfers-placed (Transfers.Out port a) m w dry next n pc h = refl
+transfers-counted (Transfers.Dmov a) m w dry next n pc h = refl
+transfers-counted (Transfers.In port a) m w true next n pc h = refl
+transfers-counted (Transfers.In port a) m w false next n pc h = refl
+transfers-counted (Transfers.Out port a) m w dry next n pc h = refl
 
-rule-placed : (i : Instruction) (before m : Machine) (words : Words) (n pc : ℕ) → traitsOf i .repeatable ≡ true
-    → ruleOf i (placed before n pc) (placed m n pc) words ≡ uncounted (ruleOf i before m words) n pc
+rule-counted : (i : Instruction) (before m : Machine) (words : Words) (n pc : ℕ) → traitsOf i .repeatable ≡ true
+    → ruleOf i (countedAt before n pc) (countedAt m n pc) words ≡ uncounted (ruleOf i before m words) n pc
 unfolding traitsOf ruleOf
-rule-placed (Family.Accumulator i) before m words n pc h = accumulator-placed i m (words .operand) n pc h
-rule-placed (Family.Multiplier i) before m words n pc h = multiplier-placed i m (words .operand) (words .table) (words .at) n pc h
-rule-placed (Family.Auxiliary i) before m words n pc h = auxiliary-placed i before m (words .operand) n pc h
-rule-placed (Family.Branches i) before m words n pc h = branches-placed i before m (words .second) n pc h
-rule-placed (Family.Transfers i) before m words n pc h = transfers-placed i m (words .operand) (words .dry) (words .next) n pc h
-rule-placed (Family.Modes i) before m words n pc h = modes-placed i m (words .operand) n pc h
+rule-counted (Family.Accumulator i) before m words n pc h = accumulator-counted i m (words .operand) n pc h
+rule-counted (Family.Multiplier i) before m words n pc h = multiplier-counted i m (words .operand) (words .table) (words .at) n pc h
+rule-counted (Family.Auxiliary i) before m words n pc h = auxiliary-counted i before m (words .operand) n pc h
+rule-counted (Family.Branches i) before m words n pc h = branches-counted i before m (words .second) n pc h
+rule-counted (Family.Transfers i) before m words n pc h = transfers-counted i m (words .operand) (words .dry) (words .next) n pc h
+rule-counted (Family.Modes i) before m words n pc h = modes-counted i m (words .operand) n pc h
 
 -- ---- operands and words read
 
-pointed-placed : (next : NextArp) (m : Machine) (n pc : ℕ) → pointed next (placed m n pc) ≡ placed (pointed next m) n pc
+pointed-counted : (next : NextArp) (m : Machine) (n pc : ℕ) → pointed next (countedAt m n pc) ≡ countedAt (pointed next m) n pc
 unfolding pointed
-pointed-placed Same m n pc = refl
-pointed-placed (To arp) m n pc = refl
+pointed-counted Same m n pc = refl
+pointed-counted (To arp) m n pc = refl
 
-addressed-placed : (o : Operand) (m : Machine) (n pc : ℕ) → addressed o (placed m n pc) ≡ placed (addressed o m) n pc
+addressed-counted : (o : Operand) (m : Machine) (n pc : ℕ) → addressed o (countedAt m n pc) ≡ countedAt (addressed o m) n pc
 unfolding addressed modified
-addressed-placed Operand.Nothing m n pc = refl
-addressed-placed (Operand.At (Mode.Direct offset)) m n pc = refl
-addressed-placed (Operand.At (Mode.Indirect operand)) m n pc = pointed-placed (operand .next) _ n pc
+addressed-counted Operand.Nothing m n pc = refl
+addressed-counted (Operand.At (Mode.Direct offset)) m n pc = refl
+addressed-counted (Operand.At (Mode.Indirect operand)) m n pc = pointed-counted (operand .next) _ n pc
 
-address-placed : (o : Operand) (m : Machine) (n pc : ℕ) → addressOf o (placed m n pc) ≡ addressOf o m
+address-counted : (o : Operand) (m : Machine) (n pc : ℕ) → addressOf o (countedAt m n pc) ≡ addressOf o m
 unfolding addressOf
-address-placed Operand.Nothing m n pc = refl
-address-placed (Operand.At (Mode.Direct offset)) m n pc = refl
-address-placed (Operand.At (Mode.Indirect operand)) m n pc = refl
+address-counted Operand.Nothing m n pc = refl
+address-counted (Operand.At (Mode.Direct offset)) m n pc = refl
+address-counted (Operand.At (Mode.Indirect operand)) m n pc = refl
 
-words-placed : (t : Traits) (second : ℕ) (rom «data» input : List ℕ) (m : Machine) (n pc : ℕ) → wordsRead t second rom «data» input (placed m n pc) ≡ wordsRead t second rom «data» input m
+words-counted : (t : Traits) (second : ℕ) (rom «data» input : List ℕ) (m : Machine) (n pc : ℕ) → wordsRead t second rom «data» input (countedAt m n pc) ≡ wordsRead t second rom «data» input m
 unfolding wordsRead tableAddress
-words-placed t second rom «data» input m n pc = rw (address-placed (t .operand) m n pc)
+words-counted t second rom «data» input m n pc = rw (address-counted (t .operand) m n pc)
 
 -- ---- the pass
 
 module _ (i : Instruction) (h : traitsOf i .repeatable ≡ true) (second : ℕ) (rom «data» input : List ℕ) (m : Machine) where
-  effect-placed : (n pc : ℕ) → effectOf (traitsOf i) i second rom «data» input (placed m n pc) ≡ uncounted (effectOf (traitsOf i) i second rom «data» input m) n pc
+  effect-counted : (n pc : ℕ) → effectOf (traitsOf i) i second rom «data» input (countedAt m n pc) ≡ uncounted (effectOf (traitsOf i) i second rom «data» input m) n pc
   unfolding effectOf
-  effect-placed n pc =
-      rw (addressed-placed (traitsOf i .operand) m n pc, words-placed (traitsOf i) second rom «data» input m n pc)
-      (rule-placed i m (addressed (traitsOf i .operand) m) (wordsRead (traitsOf i) second rom «data» input m) n pc h)
+  effect-counted n pc =
+      rw (addressed-counted (traitsOf i .operand) m n pc, words-counted (traitsOf i) second rom «data» input m n pc)
+      (rule-counted i m (addressed (traitsOf i .operand) m) (wordsRead (traitsOf i) second rom «data» input m) n pc h)
 
   -- the machine after the pass, with RPTC n before it
-  passed-with : (n : ℕ) → passedMachine (traitsOf i) i second rom «data» input (placed m n (m .pc))
-      ≡ followed (placed (effectOf (traitsOf i) i second rom «data» input m .m) n (m .pc)) Jump.Past (traitsOf i .words) true
+  passed-with : (n : ℕ) → passedMachine (traitsOf i) i second rom «data» input (countedAt m n (m .pc))
+      ≡ followed (countedAt (effectOf (traitsOf i) i second rom «data» input m .m) n (m .pc)) Jump.Past (traitsOf i .words) true
   unfolding passedMachine
-  passed-with n = rw (effect-placed n (m .pc), h)
+  passed-with n = rw (effect-counted n (m .pc), h)
 
-  written-with : (n : ℕ) → passedWrite (traitsOf i) i second rom «data» input (placed m n (m .pc)) ≡ passedWrite (traitsOf i) i second rom «data» input m
+  written-with : (n : ℕ) → passedWrite (traitsOf i) i second rom «data» input (countedAt m n (m .pc)) ≡ passedWrite (traitsOf i) i second rom «data» input m
   unfolding passedWrite
-  written-with n = rw (effect-placed n (m .pc), address-placed (traitsOf i .operand) m n (m .pc))
+  written-with n = rw (effect-counted n (m .pc), address-counted (traitsOf i .operand) m n (m .pc))
 
-follows-on : (m : Machine) (n pc words : ℕ) → followed (placed m (suc n) pc) Jump.Past words true ≡ withMid (withRptc (withPc m pc) n) 1
+follows-on : (m : Machine) (n pc words : ℕ) → followed (countedAt m (suc n) pc) Jump.Past words true ≡ withMid (withRptc (withPc m pc) n) 1
 unfolding followed
 follows-on m n pc words =
     let a : ltb 0 (suc n) ≡ true = lt-ltb 0 (suc n) (omega arith) in
     let b : suc n - 1 ≡ n = omega arith in
     rw (a, b)
 
-follows-last : (m : Machine) (pc words : ℕ) → followed (placed m 0 pc) Jump.Past words true ≡ withPc (withMid (withRptc m 0) 0) (wrappedSum pc words)
+follows-last : (m : Machine) (pc words : ℕ) → followed (countedAt m 0 pc) Jump.Past words true ≡ withPc (withMid (withRptc m 0) 0) (wrappedSum pc words)
 unfolding followed destination
 follows-last m pc words = refl
 
-follows-work : (m : Machine) (n pc words : ℕ) → withPc (withMid (withRptc (followed (placed m n pc) Jump.Past words true) 0) 0) 0 ≡ withPc (withMid (withRptc m 0) 0) 0
+follows-work : (m : Machine) (n pc words : ℕ) → withPc (withMid (withRptc (followed (countedAt m n pc) Jump.Past words true) 0) 0) 0 ≡ withPc (withMid (withRptc m 0) 0) 0
 unfolding followed
 follows-work m n pc words = by (ltb 0 n) _ _
   where
     by : (t : Bool) (k at : ℕ)
-        → withPc (withMid (withRptc (cond t (withMid (withRptc (placed m n pc) k) 1) (withPc (withMid (placed m n pc) 0) at)) 0) 0) 0
+        → withPc (withMid (withRptc (cond t (withMid (withRptc (countedAt m n pc) k) 1) (withPc (withMid (countedAt m n pc) 0) at)) 0) 0) 0
         ≡ withPc (withMid (withRptc m 0) 0) 0
     by true k at = refl
     by false k at = refl
@@ -261,7 +261,7 @@ module _ (rom input : List ℕ) (w : World) (i : Instruction) (d : decodedAt rom
   none-recounted o =
       let rows = tableFor (Base i) rom (w .«data») input (length (w .output)) (w .m) in
       let r = ranged (w .m) (not-false _ (row-not rows 0 o)) in
-      let a = address-placed (traitsOf i .operand) (w .m) n (w .m .pc) in
+      let a = address-counted (traitsOf i .operand) (w .m) n (w .m .pc) in
       let fits : inRange (withRptc (w .m) n) ≡ true = in-range (withRptc (w .m) n) (record {
         arp = r .arp;
         arb = r .arb;
@@ -315,7 +315,7 @@ module _ (rom input : List ℕ) (w : World) (i : Instruction) (d : decodedAt rom
     (e : stepOf rom input w .answer ≡ Done) where
   -- the machine after the step, by the RPTC before it
   machine-after : (n : ℕ) → w .m .rptc ≡ n
-      → stepOf rom input w .world .m ≡ followed (placed (effectAt rom input w i .m) n (w .m .pc)) Jump.Past (traitsOf i .words) true
+      → stepOf rom input w .world .m ≡ followed (countedAt (effectAt rom input w i .m) n (w .m .pc)) Jump.Past (traitsOf i .words) true
   unfolding afterStore performed
   machine-after n f =
       rw (← f, step-world rom input w i d e)
