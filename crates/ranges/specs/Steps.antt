@@ -145,16 +145,16 @@ followed-keeps {i} {o} {m} jump words repeatable f h =
     (set-pc (set-mid f (omega arith)) (destination-lt jump (m .pc) words h))
 
 -- the word of a store is of 16 bits
-abbrev WriteFits : Write → Type 0
-WriteFits Write.Nothing = Unit {0}
-WriteFits (Write.Data address word) = word < 2 ^ 16
-WriteFits (Write.Sent at word) = word < 2 ^ 16
+abbrev WordOfWriteFits : Write → Type 0
+WordOfWriteFits Write.Nothing = Unit {0}
+WordOfWriteFits (Write.Data address word) = word < 2 ^ 16
+WordOfWriteFits (Write.Sent at word) = word < 2 ^ 16
 
-moved-fits : (allowed : Bool) (address word : ℕ) → word < 2 ^ 16 → WriteFits (cond allowed (Write.Data address word) Write.Nothing)
+moved-fits : (allowed : Bool) (address word : ℕ) → word < 2 ^ 16 → WordOfWriteFits (cond allowed (Write.Data address word) Write.Nothing)
 moved-fits true address word h = h
 moved-fits false address word h = tt
 
-write-fits : (store : Store) (cnf address cursor : ℕ) → StoreFits store → WriteFits (writeOf store cnf address cursor)
+write-fits : (store : Store) (cnf address cursor : ℕ) → StoreFits store → WordOfWriteFits (writeOf store cnf address cursor)
 unfolding writeOf
 write-fits Left.Nothing cnf address cursor h = tt
 write-fits (Left.Word word) cnf address cursor h = h
@@ -168,7 +168,7 @@ record SlicesKept (write : Write) (d output : List ℕ) : Type 0 where
   data-words : WordsFit (dataAfter write d)
   output-words : WordsFit (outputAfter write output)
 
-slices-kept : (write : Write) (d output : List ℕ) → WriteFits write → WordsFit d → WordsFit output → SlicesKept write d output
+slices-kept : (write : Write) (d output : List ℕ) → WordOfWriteFits write → WordsFit d → WordsFit output → SlicesKept write d output
 unfolding dataAfter outputAfter
 slices-kept Write.Nothing d output h f g = record { data-length = refl; output-length = refl; data-words = f; output-words = g }
 slices-kept (Write.Data address word) d output h f g =
@@ -192,7 +192,7 @@ module _ (rom input d : List ℕ) (o : ℕ) (x : Instruction) (m : Machine) (f :
   unfolding passedMachine
   passed-fits = followed-keeps (effectOf (traitsOf x) x (secondWord x rom d m) rom d input m .jump) (traitsOf x .words) (traitsOf x .repeatable) (effect-fits .m) (effect-fits .jump)
 
-  passed-write : WriteFits (passedWrite (traitsOf x) x (secondWord x rom d m) rom d input m)
+  passed-write : WordOfWriteFits (passedWrite (traitsOf x) x (secondWord x rom d m) rom d input m)
   unfolding passedWrite
   passed-write = write-fits (effectOf (traitsOf x) x (secondWord x rom d m) rom d input m .store) (m .cnf) (addressOf (traitsOf x .operand) m) (m .«output_cursor») (effect-fits .store)
 

@@ -45,16 +45,16 @@ use Rattle.steps.specs.Stores.{writeOf}
 use Rattle.steps.specs.Pass.{effectOf, passedWrite}
 
 -- a word is stored only where the page accesses its operand
-abbrev pub StoreFits : Access → Store → Type 0
-StoreFits access Left.Nothing = Unit {0}
-StoreFits access (Left.Word word) = accesses access ≡ true
-StoreFits access (Left.Move word) = Unit {0}
-StoreFits access (Left.Sent word) = Unit {0}
+abbrev pub StoreAllowed : Access → Store → Type 0
+StoreAllowed access Left.Nothing = Unit {0}
+StoreAllowed access (Left.Word word) = accesses access ≡ true
+StoreAllowed access (Left.Move word) = Unit {0}
+StoreAllowed access (Left.Sent word) = Unit {0}
 
-none : (access : Access) (store : Store) → store ≡ Left.Nothing → StoreFits access store
-none access store e = subst (λ (s : Store). StoreFits access s) (sym e) tt
+none : (access : Access) (store : Store) → store ≡ Left.Nothing → StoreAllowed access store
+none access store e = subst (λ (s : Store). StoreAllowed access s) (sym e) tt
 
-accumulator-fits : (i : Accumulator) (m : Machine) (w : ℕ) → StoreFits (accumulatorTraits i .access) (accumulatorRule i m w .store)
+accumulator-fits : (i : Accumulator) (m : Machine) (w : ℕ) → StoreAllowed (accumulatorTraits i .access) (accumulatorRule i m w .store)
 unfolding accumulatorTraits accumulatorRule accesses
 accumulator-fits (Accumulator.Add s a) m w = tt
 accumulator-fits (Accumulator.Sub s a) m w = tt
@@ -80,7 +80,7 @@ accumulator-fits Accumulator.Abs m w = tt
 accumulator-fits Accumulator.Sfl m w = tt
 accumulator-fits Accumulator.Sfr m w = tt
 
-multiplier-fits : (i : Multiplier) (m : Machine) (w : ℕ) (table : ℕ) (at : ℕ) → StoreFits (multiplierTraits i .access) (multiplierRule i m w table at .store)
+multiplier-fits : (i : Multiplier) (m : Machine) (w : ℕ) (table : ℕ) (at : ℕ) → StoreAllowed (multiplierTraits i .access) (multiplierRule i m w table at .store)
 unfolding multiplierTraits multiplierRule accesses
 multiplier-fits (Multiplier.Lt a) m w table at = tt
 multiplier-fits (Multiplier.Lta a) m w table at = tt
@@ -102,7 +102,7 @@ multiplier-fits (Multiplier.Spl a) m w table at = refl
 multiplier-fits (Multiplier.Sph a) m w table at = refl
 multiplier-fits (Multiplier.Spm k) m w table at = tt
 
-auxiliary-fits : (i : Auxiliary) (before : Machine) (m : Machine) (w : ℕ) → StoreFits (auxiliaryTraits i .access) (auxiliaryRule i before m w .store)
+auxiliary-fits : (i : Auxiliary) (before : Machine) (m : Machine) (w : ℕ) → StoreAllowed (auxiliaryTraits i .access) (auxiliaryRule i before m w .store)
 unfolding auxiliaryTraits auxiliaryRule accesses
 auxiliary-fits (Auxiliary.Lar r a) before m w = tt
 auxiliary-fits (Auxiliary.Sar r a) before m w = refl
@@ -113,7 +113,7 @@ auxiliary-fits (Auxiliary.Sbrk k) before m w = tt
 auxiliary-fits (Auxiliary.Ldp a) before m w = tt
 auxiliary-fits (Auxiliary.Ldpk k) before m w = tt
 
-modes-fits : (i : Modes) (m : Machine) (w : ℕ) → StoreFits (modesTraits i .access) (modesRule i m w .store)
+modes-fits : (i : Modes) (m : Machine) (w : ℕ) → StoreAllowed (modesTraits i .access) (modesRule i m w .store)
 unfolding modesTraits modesRule accesses
 modes-fits Modes.Sovm m w = tt
 modes-fits Modes.Rovm m w = tt
@@ -131,7 +131,7 @@ unfolding branched
 branched-stores true pma m = refl
 branched-stores false pma m = refl
 
-branches-fits : (i : Branches) (before m : Machine) (pma : ℕ) → StoreFits (branchesTraits i .access) (branchesRule i before m pma .store)
+branches-fits : (i : Branches) (before m : Machine) (pma : ℕ) → StoreAllowed (branchesTraits i .access) (branchesRule i before m pma .store)
 unfolding branchesTraits branchesRule B BANZ BZ BNZ BGZ BGEZ BLZ BLEZ BV BNV CALL RET
 branches-fits (Branches.B i) before m pma = tt
 branches-fits (Branches.Banz i) before m pma = none _ _ (branched-stores _ _ _)
@@ -146,14 +146,14 @@ branches-fits (Branches.Bnv i) before m pma = none _ _ (branched-stores _ _ _)
 branches-fits (Branches.Call i) before m pma = tt
 branches-fits Branches.Ret before m pma = tt
 
-transfers-fits : (i : Transfers) (m : Machine) (w : ℕ) (dry : Bool) (next : ℕ) → StoreFits (transfersTraits i .access) (transfersRule i m w dry next .store)
+transfers-fits : (i : Transfers) (m : Machine) (w : ℕ) (dry : Bool) (next : ℕ) → StoreAllowed (transfersTraits i .access) (transfersRule i m w dry next .store)
 unfolding transfersTraits transfersRule accesses DMOV IN OUT
 transfers-fits (Transfers.Dmov a) m w dry next = tt
 transfers-fits (Transfers.In port a) m w true next = refl
 transfers-fits (Transfers.In port a) m w false next = refl
 transfers-fits (Transfers.Out port a) m w dry next = tt
 
-pub store-fits : (i : Instruction) (before m : Machine) (words : Words) → StoreFits (traitsOf i .access) (ruleOf i before m words .store)
+pub store-fits : (i : Instruction) (before m : Machine) (words : Words) → StoreAllowed (traitsOf i .access) (ruleOf i before m words .store)
 unfolding traitsOf ruleOf
 store-fits (Family.Accumulator i) before m words = accumulator-fits i m (words .operand)
 store-fits (Family.Multiplier i) before m words = multiplier-fits i m (words .operand) (words .table) (words .at)
@@ -179,7 +179,7 @@ moved-fits : (allowed : Bool) (cnf address word size : ℕ) → moveAllowed cnf 
 moved-fits true cnf address word size e h = let b = moves cnf address e in (h, omega (arith, b .below))
 moved-fits false cnf address word size e h = tt
 
-write-fits-for : (t : Traits) (store : Store) (m : Machine) (cursor size : ℕ) → StoreFits (t .access) store → size ≡ 4096 → dataAbsent t (addressOf (t .operand) m) m ≡ false
+write-fits-for : (t : Traits) (store : Store) (m : Machine) (cursor size : ℕ) → StoreAllowed (t .access) store → size ≡ 4096 → dataAbsent t (addressOf (t .operand) m) m ≡ false
     → WriteFits (writeOf store (m .cnf) (addressOf (t .operand) m) cursor) size
 unfolding writeOf dataAbsent
 write-fits-for t Left.Nothing m cursor size f h a = tt
