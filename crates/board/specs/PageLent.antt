@@ -8,13 +8,13 @@ abbrev pub count : ℕ → ℕ
 count page = 128 * page + 128 - 128 * page
 
 -- the part
-abbrev pub lent : List ℕ → ℕ → List ℕ
-lent d page = midOf (128 * page) (count page) d
+abbrev pub pageLent : List ℕ → ℕ → List ℕ
+pageLent d page = midOf (128 * page) (count page) d
 
 -- with the word in it
-abbrev pub written : List ℕ → ℕ → ℕ → ℕ → List ℕ
-written d page offset word = set (lent d page) offset word
+abbrev pub pageWritten : List ℕ → ℕ → ℕ → ℕ → List ℕ
+pageWritten d page offset word = set (pageLent d page) offset word
 
 -- the whole after the part has come back
 abbrev pub rejoined : List ℕ → ℕ → ℕ → ℕ → List ℕ
-rejoined d page offset word = putMid (128 * page) (count page) d (written d page offset word)
+rejoined d page offset word = putMid (128 * page) (count page) d (pageWritten d page offset word)

@@ -15,7 +15,7 @@ use Rattle.board.specs.Slices.{memoriesFit, portFits, slicesFit, partSta
 use Rattle.board.specs.RegionLaws.{both-hold}
 use Rattle.machine.specs.declared.Machine.{Machine}
 use Rattle.board.specs.SliceFacts.{MemoriesFit, PortFits, SlicesFit}
-use Rattle.board.specs.PageLent.{count, lent, written, rejoined}
+use Rattle.board.specs.PageLent.{count, pageLent, pageWritten, rejoined}
 
 -- a part, by its start and how many words it has
 pub part-counted : (f t : ℕ) (l : List ℕ) → take (t - f) (drop f l) ≡ slice f t l
@@ -73,21 +73,21 @@ module _ (d : List ℕ) (page offset word : ℕ) where
   pub page-before : take (128 * page) (pageStored d page offset word) ≡ take (128 * page) d
   page-before =
       either-way (λ (x : List ℕ). take (128 * page) x ≡ take (128 * page) d)
-      (λ h. take-put (128 * page) (count page) d (written d page offset word) (omega arith))
+      (λ h. take-put (128 * page) (count page) d (pageWritten d page offset word) (omega arith))
       refl
 
   pub page-after : drop (128 * page + 128) (pageStored d page offset word) ≡ drop (128 * page + 128) d
   page-after =
       either-way (λ (x : List ℕ). drop (128 * page + 128) x ≡ drop (128 * page + 128) d)
       (λ h.
-      drop-put (128 * page) (128 * page + 128) d (written d page offset word) (omega arith) h
-      (length-set (lent d page) offset word ∙ mid-len (128 * page) (128 * page + 128) d h))
+      drop-put (128 * page) (128 * page + 128) d (pageWritten d page offset word) (omega arith) h
+      (length-set (pageLent d page) offset word ∙ mid-len (128 * page) (128 * page + 128) d h))
       refl
 
   pub page-length : length (pageStored d page offset word) ≡ length d
   page-length =
       either-way (λ (x : List ℕ). length x ≡ length d)
-      (λ h. same-len-mid (128 * page) (count page) d (written d page offset word) (length-set (lent d page) offset word))
+      (λ h. same-len-mid (128 * page) (count page) d (pageWritten d page offset word) (length-set (pageLent d page) offset word))
       refl
 
   -- an offset outside the page stores nothing
@@ -95,14 +95,14 @@ module _ (d : List ℕ) (page offset word : ℕ) where
   page-outside far =
       either-way (λ (x : List ℕ). x ≡ d)
       (λ h.
-      let out : length (lent d page) ≤ offset = rw (mid-len (128 * page) (128 * page + 128) d h) (omega arith) in
-      rw (set-out (lent d page) offset word out) (put-same (128 * page) (count page) d))
+      let out : length (pageLent d page) ≤ offset = rw (mid-len (128 * page) (128 * page + 128) d h) (omega arith) in
+      rw (set-out (pageLent d page) offset word out) (put-same (128 * page) (count page) d))
       refl
 
   -- in the page it is the one store at 128 times the page plus the offset
   pub page-set : 128 * page + 128 ≤ length d → offset < 128 → pageStored d page offset word ≡ set d (128 * page + offset) word
   page-set h near =
-      let inside : offset < length (lent d page) = rw (mid-len (128 * page) (128 * page + 128) d h) (omega arith) in
+      let inside : offset < length (pageLent d page) = rw (mid-len (128 * page) (128 * page + 128) d h) (omega arith) in
       page-put h ∙ set-mid-at (128 * page) (count page) offset d word inside
 
 -- a store by page and offset is the store at its address

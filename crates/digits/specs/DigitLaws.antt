@@ -62,15 +62,15 @@ unfolding decimal
 decimal-most n = within-length n n
 
 -- digits that are counted, and digits that are left
-pub record Counted (n rest places : ℕ) : Type 0 where
+pub record DigitsCounted (n rest places : ℕ) : Type 0 where
   pub sum : places + length (decimal rest) ≡ 1 + length (decimal n)
   pub falls : rest + places ≤ n + 1
 
-pub counted-none : (n : ℕ) → Counted n n 1
+pub counted-none : (n : ℕ) → DigitsCounted n n 1
 counted-none n = record { sum = refl; falls = omega arith }
 
-module _ {n rest places : ℕ} (k : Counted n rest places) where
-  pub counted-more : 10 ≤ rest → Counted n (rest / 10) (places + 1)
+module _ {n rest places : ℕ} (k : DigitsCounted n rest places) where
+  pub counted-more : 10 ≤ rest → DigitsCounted n (rest / 10) (places + 1)
   counted-more h =
       let e : length (decimal rest) ≡ length (decimal (rest / 10)) + 1 =
       ap length (decimal-more rest h) ∙ length-append (decimal (rest / 10)) (digitOf (rest % 10) ∷ []) in

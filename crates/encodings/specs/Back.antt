@@ -22,7 +22,7 @@ use Rattle.instructions.specs.declared.Decoded.{Decoded}
 use Rattle.instructions.specs.declared.Decoded.the-variants.{Base, Published, Nothing}
 use Rattle.encodings.specs.Encode.{text, isIndirect, addressBits, indirectBits, wordOf, encodeOf}
 use Rattle.encodings.specs.Spelled.{framed, everyRow, all-framed, read, word-back}
-use Rattle.encodings.specs.Rows.{fields, isOperand, isBranch, unread, plain-rows, operand-rows, branch-rows, same-rows}
+use Rattle.encodings.specs.Rows.{fields, isOperand, isBranchPage, unread, plain-rows, operand-rows, branch-rows, same-rows}
 use Rattle.encodings.specs.Cleared.{cleared, lowTest, low-test, operandFields, branchOperand, operands-tested, branches-tested, same-operand, clearedWord, cleared-lt, cleared-low, cleared-upper}
 
 -- a word of a page that decodes to what w decodes to there, and that is the word of it
@@ -162,13 +162,13 @@ kept-at p w l h t =
     let r : Page = rowAt basePages p in
     let v : ℕ = clearedWord w in
     let lv : v % 256 ≡ cleared (w % 256) = cleared-low w in
-    row-kept r w (isOperand r) (isBranch r) (eqt→eq (r .lower) "IDDD DDDD") (eqt→eq (r .lower) "1DDD DDDD")
+    row-kept r w (isOperand r) (isBranchPage r) (eqt→eq (r .lower) "IDDD DDDD") (eqt→eq (r .lower) "1DDD DDDD")
     (every-at framed basePages p n all-framed) h t
-    (same-at (λ q. pick (isOperand q) unread (pick (isBranch q) unread (fields (means q w)))) (λ q. pick (isOperand q) unread (pick (isBranch q) unread (read q w))) basePages p n (plain-rows w))
-    (same-at (λ q. pick (isOperand q) (means q v) (pick (isBranch q) (means q v) Nothing)) (λ q. pick (isOperand q) (means q w) (pick (isBranch q) (means q w) Nothing)) basePages p n
+    (same-at (λ q. pick (isOperand q) unread (pick (isBranchPage q) unread (fields (means q w)))) (λ q. pick (isOperand q) unread (pick (isBranchPage q) unread (read q w))) basePages p n (plain-rows w))
+    (same-at (λ q. pick (isOperand q) (means q v) (pick (isBranchPage q) (means q v) Nothing)) (λ q. pick (isOperand q) (means q w) (pick (isBranchPage q) (means q w) Nothing)) basePages p n
     (same-rows w v (cleared-upper w) (ap addressModeOf lv ∙ same-operand (w % 256) .0) (ap indirectOf lv ∙ same-operand (w % 256) .1)))
     (λ a b. same-at (λ q. pick (isOperand q) (fields (means q v)) unread) (λ q. pick (isOperand q) (read q v) unread) basePages p n (operand-rows v a b))
-    (λ a. same-at (λ q. pick (isBranch q) (fields (means q v)) unread) (λ q. pick (isBranch q) (read q v) unread) basePages p n (branch-rows v a))
+    (λ a. same-at (λ q. pick (isBranchPage q) (fields (means q v)) unread) (λ q. pick (isBranchPage q) (read q v) unread) basePages p n (branch-rows v a))
 
 isBase : Decoded → Bool
 isBase (Base i) = true

@@ -21,15 +21,15 @@ fields Nothing = ("", [])
 abbrev pub isOperand : Page → Bool
 isOperand r = eqt (r .lower) "IDDD DDDD"
 
-abbrev pub isBranch : Page → Bool
-isBranch r = eqt (r .lower) "1DDD DDDD"
+abbrev pub isBranchPage : Page → Bool
+isBranchPage r = eqt (r .lower) "1DDD DDDD"
 
 abbrev pub unread : String × List (String × ℕ)
 unread = ("", [])
 
 pub plain-rows : (w : ℕ)
-    → map (λ r. pick (isOperand r) unread (pick (isBranch r) unread (fields (means r w)))) basePages
-    ≡ map (λ r. pick (isOperand r) unread (pick (isBranch r) unread (read r w))) basePages
+    → map (λ r. pick (isOperand r) unread (pick (isBranchPage r) unread (fields (means r w)))) basePages
+    ≡ map (λ r. pick (isOperand r) unread (pick (isBranchPage r) unread (read r w))) basePages
 unfolding fields fieldsOf accumulatorFields multiplierFields auxiliaryFields branchFields transferFields modeFields letters
 plain-rows w = refl
 
@@ -51,11 +51,11 @@ operand-rows w a b =
     ∙ ap (λ (d : ℕ). readWith isOperand (w / 128 % 2) d w basePages) b
 
 pub branch-rows : (w : ℕ) → indirectBits (indirectOf (w % 256)) ≡ w / 1 % 128
-    → map (λ r. pick (isBranch r) (fields (means r w)) unread) basePages ≡ map (λ r. pick (isBranch r) (read r w) unread) basePages
+    → map (λ r. pick (isBranchPage r) (fields (means r w)) unread) basePages ≡ map (λ r. pick (isBranchPage r) (read r w) unread) basePages
 unfolding fields fieldsOf accumulatorFields multiplierFields auxiliaryFields branchFields transferFields modeFields letters
-branch-rows w a = ap (λ (d : ℕ). readWith isBranch 0 d w basePages) a
+branch-rows w a = ap (λ (d : ℕ). readWith isBranchPage 0 d w basePages) a
 
 pub same-rows : (w v : ℕ) → v / 256 ≡ w / 256 → addressModeOf (v % 256) ≡ addressModeOf (w % 256) → indirectOf (v % 256) ≡ indirectOf (w % 256)
-    → map (λ r. pick (isOperand r) (means r v) (pick (isBranch r) (means r v) Nothing)) basePages
-    ≡ map (λ r. pick (isOperand r) (means r w) (pick (isBranch r) (means r w) Nothing)) basePages
+    → map (λ r. pick (isOperand r) (means r v) (pick (isBranchPage r) (means r v) Nothing)) basePages
+    ≡ map (λ r. pick (isOperand r) (means r w) (pick (isBranchPage r) (means r w) Nothing)) basePages
 same-rows w v a b c = rw (a, b, c)

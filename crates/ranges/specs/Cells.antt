@@ -62,9 +62,9 @@ cells i o m =
     (m .«output_cursor», o + 1) ∷
     []
 
-abbrev Below : List (ℕ × ℕ) → Type 0
-Below [] = Unit {0}
-Below (e ∷ es) = (e .0 < e .1) × Below es
+abbrev AllBelow : List (ℕ × ℕ) → Type 0
+AllBelow [] = Unit {0}
+AllBelow (e ∷ es) = (e .0 < e .1) × AllBelow es
 
 abbrev replaced : List (ℕ × ℕ) → ℕ → ℕ → List (ℕ × ℕ)
 replaced [] k x = []
@@ -81,18 +81,18 @@ valueAt [] k = 0
 valueAt (e ∷ es) zero = e .0
 valueAt (e ∷ es) (suc k) = valueAt es k
 
-below-at : (l : List (ℕ × ℕ)) (k : ℕ) → Below l → valueAt l k < limitAt l k
+below-at : (l : List (ℕ × ℕ)) (k : ℕ) → AllBelow l → valueAt l k < limitAt l k
 below-at [] k b = omega arith
 below-at (e ∷ es) zero b = b .0
 below-at (e ∷ es) (suc k) b = below-at es k (b .1)
 
-put-below : (l : List (ℕ × ℕ)) (k x : ℕ) → Below l → x < limitAt l k → Below (replaced l k x)
+put-below : (l : List (ℕ × ℕ)) (k x : ℕ) → AllBelow l → x < limitAt l k → AllBelow (replaced l k x)
 put-below [] k x b h = tt
 put-below (e ∷ es) zero x b h = (h, b .1)
 put-below (e ∷ es) (suc k) x b h = (b .0, put-below es k x (b .1) h)
 
 pub record Fits (i o : ℕ) (m : Machine) : Type 0 where
-  pub below : Below (cells i o m)
+  pub below : AllBelow (cells i o m)
   pub ar : WordsFit (m .ar)
   pub ar-count : length (m .ar) ≡ 8
   pub stack : WordsFit (m .stack .words)
@@ -102,7 +102,7 @@ module _ {i o : ℕ} {m : Machine} (f : Fits i o m) where
   -- another machine, which differs in the cell k alone
   set-cell : (n : Machine) (k x : ℕ) → cells i o n ≡ replaced (cells i o m) k x → n .ar ≡ m .ar → n .stack ≡ m .stack → x < limitAt (cells i o m) k → Fits i o n
   set-cell n k x e a s h = record {
-    below = subst (λ (l : List (ℕ × ℕ)). Below l) (sym e) (put-below (cells i o m) k x (f .below) h);
+    below = subst (λ (l : List (ℕ × ℕ)). AllBelow l) (sym e) (put-below (cells i o m) k x (f .below) h);
     ar = rw a (f .ar);
     ar-count = rw a (f .ar-count);
     stack = rw s (f .stack);

@@ -1,11 +1,11 @@
 use Rattle.digits.specs.DigitLaws.{counted-none, counted-more, counted-all}
-use Rattle.digits.specs.DigitLaws.{Counted}
+use Rattle.digits.specs.DigitLaws.{DigitsCounted}
 use native.Mathlib.Omega.{arith}
 use Rattle.digits.proofs.decimal_length.Statement.{statement}
 use Rattle.digits.proofs.decimal_length.Tie as tie
 
 abbrev Inv-loop : tie.InvT-loop
-Inv-loop n rest₀ places₀ rest places = Counted n rest places
+Inv-loop n rest₀ places₀ rest places = DigitsCounted n rest places
 
 abbrev μ-loop : tie.MeasureT-loop
 μ-loop n rest₀ places₀ rest places = rest
