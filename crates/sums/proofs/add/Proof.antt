@@ -1,4 +1,5 @@
 use mathlib.Core.Path.{_∙_}
+use Rattle.alu.specs.Sums.{added, carry}
 use Rattle.sums.specs.SumLaws.{add-settled}
 use borrow.Author.Needs.{needs}
 use Rattle.sums.proofs.add.Statement.{statement}
@@ -20,6 +21,7 @@ settle-requires : tie.Need-settle-requires
 settle-requires c κs = search needs
 
 returns : tie.Need-returns
+unfolding added carry
 returns c = c .settle .ensures ∙ add-settled _ _ _ _
 
 pub add-spec : {M : Type 1} → statement M
