@@ -1,3 +1,4 @@
+use Rattle.pages.specs.MultiplierPages.{MAC}
 use Rattle.pages.specs.MultiplierRule.{multiplierRule}
 use borrow.Author.Needs.{needs}
 use Rattle.multiplier.proofs.rule.Statement.{statement}
@@ -162,7 +163,7 @@ unfolding multiplierRule
 returns-11 c = rw (c .sqrs .ensures, c .before .enum-told10 .given .1)
 
 returns-12 : tie.Need-returns-12
-unfolding multiplierRule
+unfolding multiplierRule MAC
 returns-12 c = rw (c .mac .ensures, c .before .enum-told11 .given .1)
 
 returns-13 : tie.Need-returns-13

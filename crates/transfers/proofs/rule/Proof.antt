@@ -1,3 +1,4 @@
+use Rattle.pages.specs.TransfersPages.{IN}
 use Rattle.pages.specs.TransfersRule.{transfersRule}
 use borrow.Author.Needs.{needs}
 use Rattle.transfers.proofs.rule.Statement.{statement}
@@ -26,7 +27,7 @@ unfolding transfersRule
 returns c = rw (c .dmov .ensures, c .before .enum-told .given .1)
 
 returns-2 : tie.Need-returns-2
-unfolding transfersRule
+unfolding transfersRule IN
 returns-2 c = rw (c .input .ensures, c .before .enum-told2 .given .1)
 
 returns-3 : tie.Need-returns-3
