@@ -1,8 +1,10 @@
 -- The words that two pages have: "ZAC is LACK 0, NOP and LARP are MAR" (document 01). These are all, and what each is.
 use mathlib.Core.Path.{_≡_}
 use mathlib.Core.Bool.{Bool, _&&_}
+use mathlib.Core.List.{[], _∷_, map}
 use Prim.Native.Nat.{ℕ, _+_, _<_}
 use lib.Dec.{leb, eqb}
+use lib.ListN.{drop}
 use Rattle.instructions.specs.Encoding.{accumulator, auxiliary}
 use Rattle.instructions.specs.Pages.{pages}
 use Rattle.instructions.specs.Decode.{decodeOf}
@@ -17,7 +19,10 @@ use Rattle.apart.specs.Having.{hasAt}
 abbrev pub HasExactly : ℕ → (ℕ → Bool) → Type 0
 HasExactly place test = (w : ℕ) → w < 65536 → hasAt pages place w ≡ test w
 
--- Places 130, 131 and 132 of the list are ZAC, NOP and LARP.
+-- ZAC, NOP and LARP are the last of the list, at places 130, 131 and 132.
+abbrev pub LastThree : Type 0
+LastThree = map (λ p. p .name) (drop 130 pages) ≡ "ZAC" ∷ "NOP" ∷ "LARP" ∷ []
+
 pub record ZacIsLack : Type 0 where
   pub words : HasExactly 130 (λ w. eqb w 0xCA00)
   pub meaning : decodeOf 0xCA00 ≡ accumulator (Lack 0)

@@ -14,7 +14,7 @@ use Rattle.dma.specs.declared.Address.the-variants.{Indirect}
 use Rattle.dma.specs.declared.Modification.the-variants.{None}
 use Rattle.dma.specs.declared.NextArp.the-variants.{To}
 use Rattle.apart.specs.Having.{hasAt}
-use Rattle.apart.specs.Shared.{HasExactly, ZacIsLack, NopIsMar, LarpIsMar}
+use Rattle.apart.specs.Shared.{HasExactly, LastThree, ZacIsLack, NopIsMar, LarpIsMar}
 
 -- a test of a byte, computed over all bytes: where f passes, g does
 byte-is : (f g : ℕ → Bool) → T (all (λ u. pick (f u) (g u) true) 8 0) → (u : ℕ) → u < 256 → T (f u) → T (g u)
@@ -33,6 +33,9 @@ upper-of u l w t = both-left (fits u 8 (w / 256)) (lowFits l (w % 256)) t
 
 lower-of : (u l : String) (w : ℕ) → T (both (fits u 8 (w / 256)) (lowFits l (w % 256))) → T (lowFits l (w % 256))
 lower-of u l w t = both-right (fits u 8 (w / 256)) (lowFits l (w % 256)) t
+
+pub last-three : LastThree
+last-three = refl
 
 -- two tests that pass where the other does
 exactly : (f g : Bool) → (T f → T g) → (T g → T f) → f ≡ g
