@@ -2,8 +2,9 @@
 use mathlib.Core.Path.{_≡_}
 use mathlib.Core.Bool.{true, false}
 use mathlib.Core.List.{List, [], _∷_, _++_}
-use Prim.Native.Nat.{ℕ, zero, suc, _+_, _≤_, _<_}
+use Prim.Native.Nat.{ℕ, zero, suc, _+_, _*_, _-_, _≤_, _<_}
 use lib.ListN.{length}
+use denote.Ref.{RefT, ptr, now}
 use Rattle.alu.specs.Registers.{wrappedSum}
 use Rattle.machine.specs.declared.Machine.{Machine}
 use Rattle.machine.specs.Cells.{withPc, withMid, withRptc}
@@ -16,8 +17,9 @@ use Rattle.pages.specs.declared.Effect.{Effect}
 use Rattle.answers.specs.declared.Answer.{Answer}
 use Rattle.answers.specs.declared.Answer.the-variants.{Done}
 use Rattle.answers.specs.Numbers.{numberOf, isDone}
-use Rattle.board.specs.Regions.{programPresent}
+use Rattle.board.specs.Regions.{inRom, inProgramB0, programPresent}
 use Rattle.board.specs.Slices.{slicesFit}
+use Rattle.board.specs.Windows.{windowStart}
 use Rattle.steps.specs.declared.Write.{Write}
 use Rattle.steps.specs.Rows.{Row, row, firstGiven}
 use Rattle.steps.specs.Refusals.{wrongPort, addressAbove, passRefusal}
@@ -79,6 +81,16 @@ PresenceBeforeEncoding = (rom «data» input : List ℕ) (outputLength : ℕ) (m
 abbrev pub PortBeforeAddress : Type 0
 PortBeforeAddress = (t : Traits) (address second outputLength : ℕ) (m : Machine) → wrongPort (t .port) ≡ true → addressAbove t address ≡ true
     → numberOf (passRefusal t address second outputLength m) ≡ 9
+
+-- ---- where a fetch window is
+
+-- "shown in whichever of the two lent memories holds it": of memories of 4,096 words, at its own address in the ROM, and of B0 in the data memory, where B0 is at 0200h
+pub record WindowPlace (cnf address : ℕ) (rom «data» : RefT (List ℕ)) : Type 0 where
+  pub in-rom : inRom address ≡ true → windowStart cnf address rom «data» ≡ (ptr rom .0, ptr rom .1 + 2 * address)
+  pub in-b0 : inProgramB0 cnf address ≡ true → windowStart cnf address rom «data» ≡ (ptr «data» .0, ptr «data» .1 + 2 * (address - 0xFF00 + 0x200))
+
+abbrev pub WindowPlaces : Type 0
+WindowPlaces = (cnf address : ℕ) (rom «data» : RefT (List ℕ)) → length (now rom) ≡ 4096 → length (now «data») ≡ 4096 → WindowPlace cnf address rom «data»
 
 -- ---- runs
 

@@ -4,3 +4,4 @@ pub mod Laws
 pub mod Steps
 pub mod Runs
 pub mod Repeats
+pub mod Windows
