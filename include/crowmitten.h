@@ -6,9 +6,9 @@
  * its length in elements; where the length is 0 the pointer may be NULL. No two
  * slices or numbers that are lent to one call overlap unless both are const.
  *
- * Every function gives an answer of the table below. A refusal changes no cell,
- * no memory and no port, and the numbers that it gives back are 0; only a run
- * keeps, and counts, the steps that were done before the refused one.
+ * Every function returns an answer of the table below. A refusal changes no
+ * cell, no memory and no port, and the numbers that it hands out are 0; only a
+ * run keeps, and counts, the steps that were done before the refused one.
  */
 #ifndef CROWMITTEN_H
 #define CROWMITTEN_H

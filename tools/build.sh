@@ -1,12 +1,18 @@
 # shellcheck shell=sh disable=SC2154
 # Read by replay, examples/c/run and compare/build.sh with `top` set to the repository's folder: build_program and build_library prove and build what
-# is missing or older than a source; `tools` is the toolchain's folder for this machine, `emulator` its emulator, where programs for x86-64 need one.
+# is missing or older than a source, and run_program runs a program; `tools` is the toolchain's folder for this machine, `emulator` its emulator, where programs for x86-64 need one.
 
 command -v rt >/dev/null || { echo "rt, the Rattle toolchain, is not on the path" >&2; exit 1; }
 rt=$(readlink -f "$(command -v rt)")
 tools=${RATTLE_HOME:-$(dirname "$(dirname "$rt")")}/on/$(uname -m)/toolchain
-emulator=$tools/bin/qemu-x86_64
-[ -x "$emulator" ] || emulator=
+emulator=
+if [ "$(uname -m)" != x86_64 ]; then
+    emulator=$tools/bin/qemu-x86_64
+    [ -x "$emulator" ] || { echo "the Rattle toolchain has no emulator of x86-64 here ($emulator)" >&2; exit 1; }
+fi
+
+# Runs a program that is built.
+run_program() { ${emulator:+"$emulator"} "$tools/lib/ld-linux-x86-64.so.2" --library-path "$tools/lib" "$top/target/bin/$1"; }
 
 build_program() { build "$1" "target/bin/$1" make_program; }
 

@@ -28,7 +28,7 @@ slicesFit m rom «data» input outputLength =
     && portFits outputLength (m .«output_cursor»)
 
 -- Where a slice begins is a block of memory and a place in it (`ptr`); a 16-bit word takes two places.
--- The part of a lent slice from one word up to another begins so many words on in that slice; past the slice's words, at their end.
+-- The part of a lent slice from one word up to another begins so many words on in that slice; a part of no words where it ends.
 unfoldable pub partStart : ℕ → ℕ → RefT (List ℕ) → ℕ × ℕ
 partStart from to words = (ptr words .0, ptr words .1 + 2 * min from (min to (length (now words))))
 

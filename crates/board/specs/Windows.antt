@@ -20,7 +20,7 @@ windowOf cnf address rom «data» =
     (cond (inProgramB0 cnf address) (slice (address - 0xFF00 + 0x200) 0x300 «data»)
     [])
 
--- "in whichever of the two lent memories holds it, without copying": where the window begins. An empty one is shown where the ROM begins.
+-- "in whichever of the two lent memories holds it, without copying": where the window begins; at an absent address, and on a refusal, where the ROM begins
 unfoldable pub windowStart : ℕ → ℕ → RefT (List ℕ) → RefT (List ℕ) → ℕ × ℕ
 windowStart cnf address rom «data» =
     cond (inRom address) (partStart address 0x1000 rom)

@@ -1,4 +1,4 @@
--- The 133 pages of section 4.3, one row for each: the bits as the page (or Table 4-4) prints them, and what the page makes of them.
+-- The 133 pages of section 4.3, one entry for each: the bits as the page (or Table 4-4) prints them, and what the page makes of them.
 use mathlib.Core.List.{List, [], _∷_, _++_}
 use Rattle.instructions.specs.Encoding.{Page, page, other, addressModeOf, indirectOf}
 use Rattle.instructions.specs.declared.Accumulator.the-variants.{Add, Sub, Lac, Addh, Adds, Subh, Subs, Subc, Zalh, Zals, And, Or, Xor, Sacl, Sach, Lack, Addk, Subk, Cmpl, Neg, Abs, Sfl, Sfr}

@@ -11,8 +11,8 @@ use Rattle.machine.specs.Cells.{withPc, withMid, withRptc}
 use Rattle.machine.specs.Range.{inRange}
 use Rattle.instructions.specs.declared.Instruction.{Instruction}
 use Rattle.instructions.specs.declared.Decoded.the-variants.{Base, Nothing}
-use Rattle.pages.specs.declared.Traits.{Traits}
 use Rattle.pages.specs.Traits.{traitsOf}
+use Rattle.pages.specs.Addressing.{addressOf}
 use Rattle.pages.specs.declared.Effect.{Effect}
 use Rattle.answers.specs.declared.Answer.{Answer}
 use Rattle.answers.specs.declared.Answer.the-variants.{Done}
@@ -22,11 +22,11 @@ use Rattle.board.specs.Slices.{slicesFit}
 use Rattle.board.specs.Windows.{windowStart}
 use Rattle.steps.specs.declared.Write.{Write}
 use Rattle.steps.specs.Rows.{Row, row, firstGiven}
-use Rattle.steps.specs.Refusals.{wrongPort, addressAbove, passRefusal}
+use Rattle.steps.specs.Refusals.{wrongPort, dataAbsent}
 use Rattle.steps.specs.Stores.{dataAfter, outputAfter}
 use Rattle.steps.specs.Pass.{effectOf, passedWrite}
 use Rattle.steps.specs.World.{World, RunOutcome}
-use Rattle.steps.specs.Table.{decodedAt, secondWord, tableFor, checksOf}
+use Rattle.steps.specs.Table.{decodedAt, secondWord, notRepeatable, secondAbsent, tableFor, checksOf}
 use Rattle.steps.specs.Step.{stepOf, runOf}
 
 -- ---- a refused step
@@ -71,16 +71,31 @@ pub record RowGiven (rom input : List ℕ) (w : World) : Type 0 where
 
 -- ---- the order, where two conditions hold at once
 
--- "Order in a step: 1, 2, 5 for the first word, 3, ..": a word in no encoding, at an address that is absent
+-- a world that passes checks 1 and 2, with an instruction of the base at PC
+pub record Meets (rom input : List ℕ) (w : World) (i : Instruction) : Type 0 where
+  pub cells-in-range : inRange (w .m) ≡ true
+  pub slices-of-size : slicesFit (w .m) rom (w .«data») input (length (w .output)) ≡ true
+  pub word-present : programPresent (w .m .cnf) (w .m .pc) ≡ true
+  pub word-is : decodedAt rom (w .«data») (w .m) ≡ Base i
+
+-- "7, 5 for the second word": a branch after RPTK at the end of the ROM
+abbrev pub RepeatBeforeSecondWord : Type 0
+RepeatBeforeSecondWord = (rom input : List ℕ) (w : World) (i : Instruction) → Meets rom input w i
+    → notRepeatable (w .m) i ≡ true → secondAbsent (w .m) i ≡ true
+    → numberOf (stepOf rom input w .answer) ≡ 7
+
+-- "9, 8, 6": a wrong port, with an address that is absent
+abbrev pub PortBeforeData : Type 0
+PortBeforeData = (rom input : List ℕ) (w : World) (i : Instruction) → Meets rom input w i
+    → notRepeatable (w .m) i ≡ false → secondAbsent (w .m) i ≡ false
+    → wrongPort (traitsOf i .port) ≡ true → dataAbsent (traitsOf i) (addressOf (traitsOf i .operand) (w .m)) (w .m) ≡ true
+    → numberOf (stepOf rom input w .answer) ≡ 9
+
+-- "5 for the first word, 3": of the table alone, since no word stands at an absent address
 abbrev pub PresenceBeforeEncoding : Type 0
 PresenceBeforeEncoding = (rom «data» input : List ℕ) (outputLength : ℕ) (m : Machine) → inRange m ≡ true → slicesFit m rom «data» input outputLength ≡ true
     → programPresent (m .cnf) (m .pc) ≡ false
     → numberOf (firstGiven (tableFor Nothing rom «data» input outputLength m)) ≡ 5
-
--- ".. 5 for the second word, 9, 8, ..": a wrong port, with an address above 65,535
-abbrev pub PortBeforeAddress : Type 0
-PortBeforeAddress = (t : Traits) (address second outputLength : ℕ) (m : Machine) → wrongPort (t .port) ≡ true → addressAbove t address ≡ true
-    → numberOf (passRefusal t address second outputLength m) ≡ 9
 
 -- ---- where a fetch window is
 

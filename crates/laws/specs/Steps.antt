@@ -16,13 +16,12 @@ use Rattle.instructions.specs.declared.Decoded.the-variants.{Base, Published, N
 use Rattle.pages.specs.Traits.{traitsOf}
 use Rattle.steps.specs.declared.Plan.{Plan}
 use Rattle.steps.specs.Rows.{Row, row, firstGiven}
-use Rattle.steps.specs.Refusals.{passRefusal}
 use Rattle.steps.specs.Stores.{dataAfter, outputAfter}
 use Rattle.steps.specs.Pass.{performed, refused}
 use Rattle.steps.specs.World.{World}
 use Rattle.steps.specs.Table.{decodedAt, secondWord, tableFor, refusalOf, checksOf}
 use Rattle.steps.specs.Step.{pagePlan, planOf, afterStore, stepOf}
-use Rattle.laws.specs.Laws.{RefusedUnchanged, AnswersOfAStep, rowsOf, NoneHolds, GivenBy, RowGiven, PresenceBeforeEncoding, PortBeforeAddress}
+use Rattle.laws.specs.Laws.{RefusedUnchanged, AnswersOfAStep, rowsOf, NoneHolds, GivenBy, RowGiven, Meets, RepeatBeforeSecondWord, PortBeforeData, PresenceBeforeEncoding}
 
 -- facts one after another
 infixr 4 _and_
@@ -164,6 +163,12 @@ pub presence-before-encoding : PresenceBeforeEncoding
 unfolding firstGiven tableFor
 presence-before-encoding rom «data» input outputLength m r s p = rw (r, s, p)
 
-pub port-before-address : PortBeforeAddress
-unfolding firstGiven passRefusal
-port-before-address t address second outputLength m w a = rw w
+pub repeat-before-second-word : RepeatBeforeSecondWord
+unfolding firstGiven tableFor
+repeat-before-second-word rom input w i s repeated absent =
+    rw (step-answer rom input w, s .word-is, s .cells-in-range, s .slices-of-size, s .word-present, repeated)
+
+pub port-before-data : PortBeforeData
+unfolding firstGiven tableFor
+port-before-data rom input w i s repeats present wrong absent =
+    rw (step-answer rom input w, s .word-is, s .cells-in-range, s .slices-of-size, s .word-present, repeats, present, wrong)

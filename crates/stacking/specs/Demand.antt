@@ -26,7 +26,7 @@ use Rattle.steps.specs.Table.{decodedAt, secondWord}
 use Rattle.steps.specs.Step.{afterStore, stepOf, runOf}
 use Rattle.frames.specs.Frames.{Pair, Accumulation, fromZero, productAdded, passed, stacked, Words}
 use Rattle.frames.specs.FrameLaws.{passes-keep-ov, below-128, at-128}
-use Rattle.stacking.specs.Stacking.{pairsRead, wordAhead, Stacks, lastWorld, words, StaysZero, Holds, HoldsAt128}
+use Rattle.stacking.specs.Stacking.{pairsRead, wordAhead, Stacks, lastWorld, words, StaysZero, AtApac, Holds, HoldsAt128}
 use Rattle.stacking.specs.Passing.{step-does, RunsOn, runs-on, run-ended, operand-alike, accumulationOf, followed-follows, apac-works}
 use Rattle.stacking.specs.Passes.{plus, plus-is, Began, began, after, run-to, Passed, all-passed}
 
@@ -154,6 +154,13 @@ module _ (rom input : List ℕ) (w : World) (k : ℕ) (s : Stacks rom input w k)
       by (yes before) = zero-before-last h j before
       by (no past) = ap (λ (n : ℕ). runOf rom input n w .world .m .ov) (omega arith) ∙ last
 
+  last-add : AtApac rom (runOf rom input (k + 2) w .world)
+  unfolding after u v
+  last-add =
+      let n : k + 2 ≡ suc (suc k) = omega arith in
+      let e = ap (λ (j : ℕ). runOf rom input j w .world) n ∙ run-to rom input (suc (suc k)) (k + 3) w (omega arith) (s .not-refused) in
+      rw e apac-there
+
   -- "for n from 1 to 127 OV stays 0 and 0 <= S - 64 A <= 63 n"
   pub demand : suc k ≤ 127 → Holds rom input w k
   unfolding accumulationOf
@@ -172,6 +179,7 @@ module _ (rom input : List ℕ) (w : World) (k : ℕ) (s : Stacks rom input w k)
       let o = ap (λ (x : Accumulation). x .ov) comes-to in
       record {
         before-the-last = λ j l. zero-before-last (omega arith) j (omega arith);
+        last-is-apac = last-add;
         set-by-the-last = ((λ e. b .0 .0 (sym o ∙ e)), (λ a. o ∙ b .0 .1 a));
         otherwise = λ none.
             let c = b .1 none in

@@ -99,8 +99,13 @@ pub record Holds (rom input : List ℕ) (w : World) (k : ℕ) : Type 0 where
   pub ov : StaysZero rom input w (k + 3)
   pub near : Near (suc k) (exactSum (words rom input w k)) (signed 32 (lastWorld rom input w k .m .acc))
 
+-- the next step is the final product add
+abbrev pub AtApac : List ℕ → World → Type 0
+AtApac rom w = decodedAt rom (w .«data») (w .m) ≡ Base (Family.Multiplier Apac)
+
 -- "for n = 128 OV is set exactly when all 256 words read are -32768, and otherwise the same bounds hold": no step before the last sets it, whatever the words are
 pub record HoldsAt128 (rom input : List ℕ) (w : World) (k : ℕ) : Type 0 where
   pub before-the-last : StaysZero rom input w (k + 2)
+  pub last-is-apac : AtApac rom (runOf rom input (k + 2) w .world)
   pub set-by-the-last : lastWorld rom input w k .m .ov ≡ 1 ↔ AllLeast (words rom input w k)
   pub otherwise : (AllLeast (words rom input w k) → ⊥) → Holds rom input w k
