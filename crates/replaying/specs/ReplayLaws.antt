@@ -127,7 +127,7 @@ module _ (bytes : List ℕ) (k : ℕ) (h : 16401 ≤ k) where
   cut-long : k < length bytes → replayLine (take k bytes) ≡ replayLine bytes
   cut-long longer =
       let whole = too-long bytes (omega arith) in
-      let part = too-long (take k bytes) (rw (length-take-le k bytes (omega arith)) h) in
+      let part = too-long (take k bytes) (omega (arith, length-take-le k bytes (omega arith))) in
       let same : readAnswer (take k bytes) ≡ readAnswer bytes = part ∙ rw cut-version (sym whole) in
       let refused : isDone (readAnswer bytes) ≡ false = rw whole (refused-version (eqb (numbersOf bytes .version) 1)) in
       sym (refused-replay (take k bytes) (rw same refused)) ∙ rw same (refused-replay bytes refused)
