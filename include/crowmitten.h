@@ -25,7 +25,7 @@ enum crowmitten_answer {
     CROWMITTEN_CELL_OUT_OF_RANGE = 1, /* a cell is outside its range */
     CROWMITTEN_SLICES_UNFIT = 2,      /* a slice is not of its size, or a cursor is past its slice */
     CROWMITTEN_NO_ENCODING = 3,       /* the word at PC is in no encoding */
-    CROWMITTEN_NOT_IN_BASE = 4,       /* an instruction that is not built */
+    CROWMITTEN_NOT_BUILT = 4,       /* an instruction that is not built */
     CROWMITTEN_PROGRAM_ABSENT = 5,    /* no such program address on the board */
     CROWMITTEN_DATA_ABSENT = 6,       /* no such data address on the board */
     CROWMITTEN_NOT_REPEATABLE = 7,    /* RPTC above 0, and the instruction cannot be repeated */

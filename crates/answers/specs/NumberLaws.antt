@@ -6,7 +6,7 @@ use Prim.Native.Nat.{ℕ}
 use lib.Dec.{eqb}
 use borrow.Author.Tests.{eqb-true, eq-eqb}
 use Rattle.answers.specs.declared.Answer.{Answer}
-use Rattle.answers.specs.declared.Answer.the-variants.{Done, CellOutOfRange, SlicesUnfit, NoEncoding, NotInBase, ProgramAbsent, DataAbsent, NotRepeatable, AddressAbove, WrongPort, OutputFull, FileShort, FileVersion, FileRules, FileNoRoom}
+use Rattle.answers.specs.declared.Answer.the-variants.{Done, CellOutOfRange, SlicesUnfit, NoEncoding, NotBuilt, ProgramAbsent, DataAbsent, NotRepeatable, AddressAbove, WrongPort, OutputFull, FileShort, FileVersion, FileRules, FileNoRoom}
 use Rattle.answers.specs.Numbers.{numberOf, isDone}
 
 -- the first answer of a list that has the number n
@@ -21,7 +21,7 @@ answerWith n =
     ∷ CellOutOfRange
     ∷ SlicesUnfit
     ∷ NoEncoding
-    ∷ NotInBase
+    ∷ NotBuilt
     ∷ ProgramAbsent
     ∷ DataAbsent
     ∷ NotRepeatable
@@ -40,7 +40,7 @@ back Done = refl
 back CellOutOfRange = refl
 back SlicesUnfit = refl
 back NoEncoding = refl
-back NotInBase = refl
+back NotBuilt = refl
 back ProgramAbsent = refl
 back DataAbsent = refl
 back NotRepeatable = refl

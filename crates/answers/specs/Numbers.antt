@@ -3,7 +3,7 @@ use mathlib.Core.Bool.{Bool}
 use Prim.Native.Nat.{ℕ}
 use lib.Dec.{eqb}
 use Rattle.answers.specs.declared.Answer.{Answer}
-use Rattle.answers.specs.declared.Answer.the-variants.{Done, CellOutOfRange, SlicesUnfit, NoEncoding, NotInBase, ProgramAbsent, DataAbsent, NotRepeatable, AddressAbove, WrongPort, OutputFull, FileShort, FileVersion, FileRules, FileNoRoom}
+use Rattle.answers.specs.declared.Answer.the-variants.{Done, CellOutOfRange, SlicesUnfit, NoEncoding, NotBuilt, ProgramAbsent, DataAbsent, NotRepeatable, AddressAbove, WrongPort, OutputFull, FileShort, FileVersion, FileRules, FileNoRoom}
 
 abbrev pub numberOf : Answer → ℕ
 -- "step or run done"
@@ -15,7 +15,7 @@ numberOf SlicesUnfit = 2
 -- "the word is in no encoding of section 4.3 (indirect 011 included)"
 numberOf NoEncoding = 3
 -- "a published instruction not in the base"
-numberOf NotInBase = 4
+numberOf NotBuilt = 4
 -- "program address absent"
 numberOf ProgramAbsent = 5
 -- "data address read or written is absent"

@@ -1,4 +1,4 @@
-// Decodes every word and prints, for each upper byte, how many of its 256 words are of the base, published elsewhere, and in no
+// Decodes every word and prints, for each upper byte, how many of its 256 words are built, published and not built, and in no
 // encoding; and last the three totals. The expected output was worked out from the prints of Table 4-4 and the rulings R1 to R5 by a
 // program of its own in another language, which shares no table with the decoder.
 use instructions::Decoded;
@@ -6,16 +6,16 @@ use instructions::Decoded;
 const STDOUT: i32 = 1;
 
 struct Counts {
-    base: u64,
-    published: u64,
+    built: u64,
+    unbuilt: u64,
     nothing: u64,
 }
 
 impl Counts {
     fn none() -> Counts {
         Counts {
-            base: 0,
-            published: 0,
+            built: 0,
+            unbuilt: 0,
             nothing: 0,
         }
     }
@@ -23,11 +23,11 @@ impl Counts {
     // One word more.
     fn with(mut self, d: Decoded) -> Counts {
         match d {
-            Decoded::Base(_) => {
-                self.base = std::num::wrapping_add_u64(self.base, 1);
+            Decoded::Built(_) => {
+                self.built = std::num::wrapping_add_u64(self.built, 1);
             }
-            Decoded::Published => {
-                self.published = std::num::wrapping_add_u64(self.published, 1);
+            Decoded::Unbuilt => {
+                self.unbuilt = std::num::wrapping_add_u64(self.unbuilt, 1);
             }
             Decoded::Nothing => {
                 self.nothing = std::num::wrapping_add_u64(self.nothing, 1);
@@ -38,16 +38,16 @@ impl Counts {
 
     fn plus(self, more: Counts) -> Counts {
         Counts {
-            base: std::num::wrapping_add_u64(self.base, more.base),
-            published: std::num::wrapping_add_u64(self.published, more.published),
+            built: std::num::wrapping_add_u64(self.built, more.built),
+            unbuilt: std::num::wrapping_add_u64(self.unbuilt, more.unbuilt),
             nothing: std::num::wrapping_add_u64(self.nothing, more.nothing),
         }
     }
 
     fn print(self) {
-        io::print_decimal(STDOUT, self.base);
+        io::print_decimal(STDOUT, self.built);
         io::write_all(STDOUT, b" ");
-        io::print_decimal(STDOUT, self.published);
+        io::print_decimal(STDOUT, self.unbuilt);
         io::write_all(STDOUT, b" ");
         io::print_decimal(STDOUT, self.nothing);
         io::write_all(STDOUT, b"\n");

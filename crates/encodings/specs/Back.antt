@@ -19,7 +19,7 @@ use Rattle.apart.specs.Having.{hasAt}
 use Rattle.meanings.specs.Past.{past-base, past-pages}
 use Rattle.instructions.specs.declared.Instruction.{Instruction}
 use Rattle.instructions.specs.declared.Decoded.{Decoded}
-use Rattle.instructions.specs.declared.Decoded.the-variants.{Base, Published, Nothing}
+use Rattle.instructions.specs.declared.Decoded.the-variants.{Built, Unbuilt, Nothing}
 use Rattle.encodings.specs.Encode.{text, isIndirect, addressBits, indirectBits, wordOf, encodeOf}
 use Rattle.encodings.specs.Spelled.{framed, everyRow, all-framed, read, word-back}
 use Rattle.encodings.specs.Rows.{fields, isOperand, isBranchPage, unread, plain-rows, operand-rows, branch-rows, same-rows}
@@ -170,36 +170,36 @@ kept-at p w l h t =
     (λ a b. same-at (λ q. pick (isOperand q) (fields (means q v)) unread) (λ q. pick (isOperand q) (read q v) unread) basePages p n (operand-rows v a b))
     (λ a. same-at (λ q. pick (isBranchPage q) (fields (means q v)) unread) (λ q. pick (isBranchPage q) (read q v) unread) basePages p n (branch-rows v a))
 
-isBase : Decoded → Bool
-isBase (Base i) = true
-isBase Published = false
-isBase Nothing = false
+isBuilt : Decoded → Bool
+isBuilt (Built i) = true
+isBuilt Unbuilt = false
+isBuilt Nothing = false
 
-no-base : (d : Decoded) (i : Instruction) → d ≡ Base i → T (not (isBase d)) → ⊥
-unfolding isBase
-no-base d i e t = subst (λ (x : Decoded). T (not (isBase x))) e t
+not-built : (d : Decoded) (i : Instruction) → d ≡ Built i → T (not (isBuilt d)) → ⊥
+unfolding isBuilt
+not-built d i e t = subst (λ (x : Decoded). T (not (isBuilt x))) e t
 
 -- Decoding the word of an instruction that some word decodes to gives that instruction.
-pub decode-encode : (w : ℕ) (i : Instruction) → w < 65536 → decodeOf w ≡ Base i → decodeOf (encodeOf i) ≡ Base i
-unfolding isBase meaningAt encodeOf fields
+pub decode-encode : (w : ℕ) (i : Instruction) → w < 65536 → decodeOf w ≡ Built i → decodeOf (encodeOf i) ≡ Built i
+unfolding isBuilt meaningAt encodeOf fields
 decode-encode w i h e =
     by-order p 75 base
-    (λ a. by-order p 133 (λ b. absurd (no-base Published i (sym (past-base p w a b) ∙ m) tt))
-    (λ b. absurd (no-base Nothing i (sym (past-pages p w b) ∙ m) tt)))
+    (λ a. by-order p 133 (λ b. absurd (not-built Unbuilt i (sym (past-base p w a b) ∙ m) tt))
+    (λ b. absurd (not-built Nothing i (sym (past-pages p w b) ∙ m) tt)))
   where
     p : ℕ
     p = placeIn pages w
 
-    m : meaningAt (placeIn pages w) w ≡ Base i
+    m : meaningAt (placeIn pages w) w ≡ Built i
     m = sym (decode-at-place w) ∙ e
 
-    base : placeIn pages w < 75 → decodeOf (encodeOf i) ≡ Base i
+    base : placeIn pages w < 75 → decodeOf (encodeOf i) ≡ Built i
     base l =
         let r : Page = rowAt basePages (placeIn pages w) in
         let t : T (has r w)
         = subst (λ (b : Bool). T b) (has-at basePages otherPages (placeIn pages w) w l) (place-has pages w (omega arith)) in
         let k : Kept r w = kept-at (placeIn pages w) w l h t in
-        let q : means r (k .v) ≡ Base i = k .same ∙ sym (means-at basePages otherPages (placeIn pages w) w l) ∙ m in
+        let q : means r (k .v) ≡ Built i = k .same ∙ sym (means-at basePages otherPages (placeIn pages w) w l) ∙ m in
         let s : encodeOf i ≡ k .v = ap (λ (d : Decoded). wordOf (fields d)) (sym q) ∙ k .spelt in
         ap decodeOf s
         ∙ own-meaning (placeIn pages w) (k .v) (k .below) (omega arith)

@@ -8,14 +8,14 @@ use lib.Text.{eqt}
 use Rattle.instructions.specs.Encoding.{Page, pick, under, means, addressModeOf, indirectOf}
 use Rattle.instructions.specs.Pages.{basePages}
 use Rattle.instructions.specs.declared.Decoded.{Decoded}
-use Rattle.instructions.specs.declared.Decoded.the-variants.{Base, Published, Nothing}
+use Rattle.instructions.specs.declared.Decoded.the-variants.{Built, Unbuilt, Nothing}
 use Rattle.encodings.specs.Encode.{text, isIndirect, addressBits, indirectBits, fieldsOf, accumulatorFields, multiplierFields, auxiliaryFields, branchFields, transferFields, modeFields}
 use Rattle.encodings.specs.Spelled.{letters, read}
 
 -- the page and the fields of what a word is
 unfoldable pub fields : Decoded → String × List (String × ℕ)
-fields (Base i) = fieldsOf i
-fields Published = ("", [])
+fields (Built i) = fieldsOf i
+fields Unbuilt = ("", [])
 fields Nothing = ("", [])
 
 abbrev pub isOperand : Page → Bool

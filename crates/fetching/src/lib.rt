@@ -37,7 +37,7 @@ fn is_unrepeatable(rptc: u16, repeatable: bool) -> bool
     false
 }
 
-// An instruction of the base: answers 7 and 5 for the second word, then the pass.
+// An instruction: answers 7 and 5 for the second word, then the pass.
 fn plan_instruction<'a>(
     i: Instruction,
     rom: &'a [u16],
@@ -73,8 +73,8 @@ fn plan_decoded<'a>(
     ensures { λ r. ⌜ r ≡ decodedPlan d (now (rom .entry)) (now («data» .entry)) (now (input .entry)) «output_length» m ⌝ }
 {
     match d {
-        Decoded::Base(i) => plan_instruction(i, rom, data, input, output_length, m),
-        Decoded::Published => refuse(m, Answer::NotInBase),
+        Decoded::Built(i) => plan_instruction(i, rom, data, input, output_length, m),
+        Decoded::Unbuilt => refuse(m, Answer::NotBuilt),
         Decoded::Nothing => refuse(m, Answer::NoEncoding),
     }
 }

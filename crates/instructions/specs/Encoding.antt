@@ -20,7 +20,7 @@ use Rattle.instructions.specs.declared.Transfers.{Transfers}
 use Rattle.instructions.specs.declared.Modes.{Modes}
 use Rattle.instructions.specs.declared.Instruction.the-variants as family
 use Rattle.instructions.specs.declared.Decoded.{Decoded}
-use Rattle.instructions.specs.declared.Decoded.the-variants.{Base, Published, Nothing}
+use Rattle.instructions.specs.declared.Decoded.the-variants.{Built, Unbuilt, Nothing}
 
 abbrev pub pick : {A : Type 0} → Bool → A → A → A
 pick true a b = a
@@ -111,31 +111,31 @@ pub record Page : Type 0 where
 abbrev pub page : String → String → String → ((String → ℕ) → ℕ → Decoded) → Page
 page n u l m = record { name = n; upper = u; lower = l; meaning = m }
 
--- a page that is not in the base
+-- a page that is not built
 abbrev pub other : String → String → String → Page
-other n u l = page n u l (λ f low. Published)
+other n u l = page n u l (λ f low. Unbuilt)
 
 -- what a page makes of a word
 abbrev pub means : Page → ℕ → Decoded
 means r w = r .meaning (under (r .upper ++ " " ++ r .lower) 16 w) (w % 256)
 
 abbrev pub accumulator : Accumulator → Decoded
-accumulator x = Base (family.Accumulator x)
+accumulator x = Built (family.Accumulator x)
 
 abbrev pub multiplier : Multiplier → Decoded
-multiplier x = Base (family.Multiplier x)
+multiplier x = Built (family.Multiplier x)
 
 abbrev pub auxiliary : Auxiliary → Decoded
-auxiliary x = Base (family.Auxiliary x)
+auxiliary x = Built (family.Auxiliary x)
 
 abbrev pub branches : Branches → Decoded
-branches x = Base (family.Branches x)
+branches x = Built (family.Branches x)
 
 abbrev pub transfers : Transfers → Decoded
-transfers x = Base (family.Transfers x)
+transfers x = Built (family.Transfers x)
 
 abbrev pub modes : Modes → Decoded
-modes x = Base (family.Modes x)
+modes x = Built (family.Modes x)
 
 -- the page has the word
 abbrev pub has : Page → ℕ → Bool

@@ -1,4 +1,4 @@
-// The decoded instruction of the base: one case for each page of section 4.3, in the families of Table 4-4.
+// The decoded instruction: one case for each page of section 4.3 that is built, in the families of Table 4-4.
 
 use dma::Address;
 use dma::Indirect;
@@ -109,9 +109,9 @@ pub enum Instruction {
     Modes(Modes),
 }
 
-// What a word is: an instruction of the base, published on another page, or in no encoding.
+// What a word is: an instruction that is built, one that is published and not built, or in no encoding.
 pub enum Decoded {
-    Base(Instruction),
-    Published,
+    Built(Instruction),
+    Unbuilt,
     Nothing,
 }

@@ -10,7 +10,7 @@ use Rattle.machine.specs.declared.Machine.{Machine}
 use Rattle.machine.specs.Cells.{withPc, withMid, withRptc}
 use Rattle.machine.specs.Range.{inRange}
 use Rattle.instructions.specs.declared.Instruction.{Instruction}
-use Rattle.instructions.specs.declared.Decoded.the-variants.{Base, Nothing}
+use Rattle.instructions.specs.declared.Decoded.the-variants.{Built, Nothing}
 use Rattle.pages.specs.Traits.{traitsOf}
 use Rattle.pages.specs.Addressing.{addressOf}
 use Rattle.pages.specs.declared.Effect.{Effect}
@@ -71,12 +71,12 @@ pub record RowGiven (rom input : List ℕ) (w : World) : Type 0 where
 
 -- ---- the order, where two conditions hold at once
 
--- a world that passes checks 1 and 2, with an instruction of the base at PC
+-- a world that passes checks 1 and 2, with an instruction that is built at PC
 pub record Meets (rom input : List ℕ) (w : World) (i : Instruction) : Type 0 where
   pub cells-in-range : inRange (w .m) ≡ true
   pub slices-of-size : slicesFit (w .m) rom (w .«data») input (length (w .output)) ≡ true
   pub word-present : programPresent (w .m .cnf) (w .m .pc) ≡ true
-  pub word-is : decodedAt rom (w .«data») (w .m) ≡ Base i
+  pub word-is : decodedAt rom (w .«data») (w .m) ≡ Built i
 
 -- "7, 5 for the second word": a branch after RPTK at the end of the ROM
 abbrev pub RepeatBeforeSecondWord : Type 0
@@ -176,5 +176,5 @@ pub record PassWorks (rom input : List ℕ) (w : World) (i : Instruction) : Type
 
 -- "a repeat that works in its first pass and only counts the rest" is ruled out
 abbrev pub EveryPassWorks : Type 0
-EveryPassWorks = (rom input : List ℕ) (w : World) (i : Instruction) → decodedAt rom (w .«data») (w .m) ≡ Base i → traitsOf i .repeatable ≡ true
+EveryPassWorks = (rom input : List ℕ) (w : World) (i : Instruction) → decodedAt rom (w .«data») (w .m) ≡ Built i → traitsOf i .repeatable ≡ true
     → stepOf rom input w .answer ≡ Done → PassWorks rom input w i

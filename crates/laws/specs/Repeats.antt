@@ -38,7 +38,7 @@ use Rattle.pages.specs.MultiplierPages.{tableAddress, LT, LTA, LTP, LTD, LTS, M
 use Rattle.pages.specs.AuxiliaryPages.{LAR, SAR, LARK, MAR, ADRK, SBRK, LDP, LDPK}
 use Rattle.pages.specs.ModesPages.{SOVM, ROVM, SSXM, RSXM, CNFD, CNFP, RPT, RPTK, PUSH, POP}
 use Rattle.pages.specs.TransfersPages.{DMOV, IN, OUT}
-use Rattle.instructions.specs.declared.Decoded.the-variants.{Base}
+use Rattle.instructions.specs.declared.Decoded.the-variants.{Built}
 use Rattle.dma.specs.declared.NextArp.{NextArp}
 use Rattle.dma.specs.declared.NextArp.the-variants.{Same, To}
 use Rattle.dma.specs.declared.Indirect.{Indirect}
@@ -250,16 +250,16 @@ never : (t : Bool) → t && false ≡ false
 never true = refl
 never false = refl
 
-module _ (rom input : List ℕ) (w : World) (i : Instruction) (d : decodedAt rom (w .«data») (w .m) ≡ Base i) (h : traitsOf i .repeatable ≡ true)
+module _ (rom input : List ℕ) (w : World) (i : Instruction) (d : decodedAt rom (w .«data») (w .m) ≡ Built i) (h : traitsOf i .repeatable ≡ true)
     (e : stepOf rom input w .answer ≡ Done) (n : ℕ) (l : n ≤ 255) where
-  decoded-recounted : decodedAt rom (w .«data») (withRptc (w .m) n) ≡ Base i
+  decoded-recounted : decodedAt rom (w .«data») (withRptc (w .m) n) ≡ Built i
   unfolding decodedAt
   decoded-recounted = d
 
-  none-recounted : NoneHolds (tableFor (Base i) rom (w .«data») input (length (w .output)) (w .m)) → NoneHolds (tableFor (Base i) rom (w .«data») input (length (w .output)) (withRptc (w .m) n))
+  none-recounted : NoneHolds (tableFor (Built i) rom (w .«data») input (length (w .output)) (w .m)) → NoneHolds (tableFor (Built i) rom (w .«data») input (length (w .output)) (withRptc (w .m) n))
   unfolding tableFor slicesFit notRepeatable secondAbsent secondAddress secondWord addressAbove dataAbsent tableAbsent tableAddress outputFull
   none-recounted o =
-      let rows = tableFor (Base i) rom (w .«data») input (length (w .output)) (w .m) in
+      let rows = tableFor (Built i) rom (w .«data») input (length (w .output)) (w .m) in
       let r = ranged (w .m) (not-false _ (row-not rows 0 o)) in
       let a = address-counted (traitsOf i .operand) (w .m) n (w .m .pc) in
       let fits : inRange (withRptc (w .m) n) ≡ true = in-range (withRptc (w .m) n) (record {
@@ -293,7 +293,7 @@ module _ (rom input : List ℕ) (w : World) (i : Instruction) (d : decodedAt rom
 
   done-recounted : stepOf rom input (recounted w n) .answer ≡ Done
   done-recounted =
-      let o : NoneHolds (tableFor (Base i) rom (w .«data») input (length (w .output)) (w .m)) = rw d at (row-given rom input w .done-only e) in
+      let o : NoneHolds (tableFor (Built i) rom (w .«data») input (length (w .output)) (w .m)) = rw d at (row-given rom input w .done-only e) in
       row-given rom input (recounted w n) .done-by (rw decoded-recounted (none-recounted o))
 
   work-recounted : workOf (stepOf rom input (recounted w n) .world)
@@ -311,7 +311,7 @@ module _ (rom input : List ℕ) (w : World) (i : Instruction) (d : decodedAt rom
         follows-work (effectAt rom input w i .m) n (w .m .pc) (traitsOf i .words),
       )
 
-module _ (rom input : List ℕ) (w : World) (i : Instruction) (d : decodedAt rom (w .«data») (w .m) ≡ Base i) (h : traitsOf i .repeatable ≡ true)
+module _ (rom input : List ℕ) (w : World) (i : Instruction) (d : decodedAt rom (w .«data») (w .m) ≡ Built i) (h : traitsOf i .repeatable ≡ true)
     (e : stepOf rom input w .answer ≡ Done) where
   -- the machine after the step, by the RPTC before it
   machine-after : (n : ℕ) → w .m .rptc ≡ n

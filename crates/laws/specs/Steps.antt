@@ -12,7 +12,7 @@ use Rattle.answers.specs.Numbers.{numberOf, isDone}
 use Rattle.answers.specs.NumberLaws.{done-is}
 use Rattle.instructions.specs.declared.Instruction.{Instruction}
 use Rattle.instructions.specs.declared.Decoded.{Decoded}
-use Rattle.instructions.specs.declared.Decoded.the-variants.{Base, Published, Nothing}
+use Rattle.instructions.specs.declared.Decoded.the-variants.{Built, Unbuilt, Nothing}
 use Rattle.pages.specs.Traits.{traitsOf}
 use Rattle.steps.specs.declared.Plan.{Plan}
 use Rattle.steps.specs.Rows.{Row, row, firstGiven}
@@ -30,8 +30,8 @@ a and b = (a, b)
 
 page-done : (d : Decoded) (rom «data» input : List ℕ) (m : Machine) → pagePlan d rom «data» input m .answer ≡ Done
 unfolding pagePlan performed
-page-done (Base i) rom «data» input m = refl
-page-done Published rom «data» input m = refl
+page-done (Built i) rom «data» input m = refl
+page-done Unbuilt rom «data» input m = refl
 page-done Nothing rom «data» input m = refl
 
 -- a plan by its refusal
@@ -56,7 +56,7 @@ refused-unchanged rom input w h =
     rw e
 
 -- a step that is done is what the page's rule makes of the world
-pub step-world : (rom input : List ℕ) (w : World) (i : Instruction) → decodedAt rom (w .«data») (w .m) ≡ Base i → stepOf rom input w .answer ≡ Done
+pub step-world : (rom input : List ℕ) (w : World) (i : Instruction) → decodedAt rom (w .«data») (w .m) ≡ Built i → stepOf rom input w .answer ≡ Done
     → stepOf rom input w .world ≡ afterStore (performed (traitsOf i) i (secondWord i rom (w .«data») (w .m)) rom (w .«data») input (w .m)) w
 unfolding stepOf planOf refusalOf pagePlan
 step-world rom input w i d e =

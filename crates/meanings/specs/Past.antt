@@ -13,26 +13,26 @@ use Rattle.instructions.specs.Encoding.{Page, pick, both}
 use Rattle.instructions.specs.Pages.{pages}
 use Rattle.instructions.specs.Places.{meaningIn, meaningAt}
 use Rattle.instructions.specs.declared.Decoded.{Decoded}
-use Rattle.instructions.specs.declared.Decoded.the-variants.{Base, Published, Nothing}
+use Rattle.instructions.specs.declared.Decoded.the-variants.{Built, Unbuilt, Nothing}
 
-published : Decoded → Bool
-published (Base i) = false
-published Published = true
-published Nothing = false
+unbuilt : Decoded → Bool
+unbuilt (Built i) = false
+unbuilt Unbuilt = true
+unbuilt Nothing = false
 
-published-is : (d : Decoded) → T (published d) → d ≡ Published
-unfolding published
-published-is (Base i) t = absurd t
-published-is Published t = refl
-published-is Nothing t = absurd t
+unbuilt-is : (d : Decoded) → T (unbuilt d) → d ≡ Unbuilt
+unfolding unbuilt
+unbuilt-is (Built i) t = absurd t
+unbuilt-is Unbuilt t = refl
+unbuilt-is Nothing t = absurd t
 
-pub past-base : (p w : ℕ) → 75 ≤ p → p < 133 → meaningAt p w ≡ Published
-unfolding meaningAt published
+pub past-base : (p w : ℕ) → 75 ≤ p → p < 133 → meaningAt p w ≡ Unbuilt
+unfolding meaningAt unbuilt
 past-base p w lo hi =
     let b : both (leb 75 p) (ltb p 133) ≡ true = rw (le-leb 75 p lo, lt-ltb p 133 hi) in
-    published-is (meaningIn pages p w)
+    unbuilt-is (meaningIn pages p w)
     (rw b at
-    (all-at (λ q. pick (both (leb 75 q) (ltb q 133)) (published (meaningIn pages q w)) true) 8 0 p tt (omega arith) (omega arith)))
+    (all-at (λ q. pick (both (leb 75 q) (ltb q 133)) (unbuilt (meaningIn pages q w)) true) 8 0 p tt (omega arith) (omega arith)))
 
 past-end : (rs : List Page) (p w : ℕ) → length rs ≤ p → meaningIn rs p w ≡ Nothing
 past-end [] p w h = refl

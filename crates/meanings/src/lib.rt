@@ -4,7 +4,7 @@ ghost use Prim.Native.Nat.{_<_, _≤_};
 ghost use Rattle.instructions.specs.Encoding.{modificationOf, nextOf, indirectOf, addressModeOf};
 ghost use Rattle.instructions.specs.Encoding.{accumulator, multiplier, auxiliary, branches, transfers, modes};
 ghost use Rattle.instructions.specs.Places.{meaningAt};
-ghost use Rattle.instructions.specs.declared.Decoded.the-variants.{Base};
+ghost use Rattle.instructions.specs.declared.Decoded.the-variants.{Built};
 use dma::Address;
 use dma::Indirect;
 use dma::Modification;
@@ -207,7 +207,7 @@ fn mode_page(page: u8, w: u16) -> Modes
 // The base's pages, in the families' order.
 fn base_of(page: u8, w: u16) -> Instruction
     requires { ⌜ page < 75 ⌝ }
-    ensures { λ r. ⌜ Base r ≡ meaningAt page w ⌝ }
+    ensures { λ r. ⌜ Built r ≡ meaningAt page w ⌝ }
 {
     if page < 23 {
         return Instruction::Accumulator(accumulator_page(page, w));
@@ -232,10 +232,10 @@ pub fn meaning(page: u8, w: u16) -> Decoded
     ensures { λ r. ⌜ r ≡ meaningAt page w ⌝ }
 {
     if page < 75 {
-        return Decoded::Base(base_of(page, w));
+        return Decoded::Built(base_of(page, w));
     }
     if page < PAGES {
-        return Decoded::Published;
+        return Decoded::Unbuilt;
     }
     Decoded::Nothing
 }

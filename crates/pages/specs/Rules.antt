@@ -1,4 +1,4 @@
--- One rule for every instruction of the base, by its family.
+-- One rule for every instruction, by its family.
 use Rattle.machine.specs.declared.Machine.{Machine}
 use Rattle.instructions.specs.declared.Instruction.{Instruction}
 use Rattle.instructions.specs.declared.Instruction.the-variants.{Accumulator, Multiplier, Auxiliary, Branches, Transfers, Modes}

@@ -98,7 +98,7 @@ fn transfer(page: Transfers, m: Machine, word: u16, input: &[u16], cursor: u16) 
     transfers::rule(page, m, word, dry, slices::input_word(input, cursor))
 }
 
-// One rule for every instruction of the base, by its family.
+// One rule for every instruction, by its family.
 fn rule(i: Instruction, before: Machine, m: Machine, words: MemoryWords, input: &[u16]) -> Effect
     ensures { λ r. ⌜ r ≡ ruleOf i before m (withPort words (now (input .entry)) (before .«input_cursor»)) ⌝ }
 {

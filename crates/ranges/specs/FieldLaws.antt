@@ -9,14 +9,14 @@ use borrow.Author.Tests.{ltb-true}
 use Rattle.dma.specs.declared.NextArp.the-variants.{Same, To}
 use Rattle.dma.specs.declared.Address.the-variants as Mode
 use Rattle.instructions.specs.declared.Decoded.{Decoded}
-use Rattle.instructions.specs.declared.Decoded.the-variants.{Base, Published, Nothing}
+use Rattle.instructions.specs.declared.Decoded.the-variants.{Built, Unbuilt, Nothing}
 use Rattle.instructions.specs.Encoding.{Page, pick, both, has, means, first, addressModeOf, indirectOf, nextOf}
 use Rattle.instructions.specs.Pages.{accumulatorPages, multiplierPages, auxiliaryPages, branchPages, transferPages, modePages, basePages, otherPages, pages}
 use Rattle.instructions.specs.Decode.{decodeOf}
 use Rattle.instructions.specs.Every.{both-left, both-right}
 use Rattle.machine.specs.declared.Machine.{Machine}
 use Rattle.board.specs.Windows.{programWord}
-use Rattle.steps.specs.Table.{decodedAt, isPublished}
+use Rattle.steps.specs.Table.{decodedAt, isUnbuilt}
 use Rattle.laws.specs.Steps.{_and_}
 use Rattle.ranges.specs.Fields.{NextFits, IndirectFits, AddressFits, DecodedFits}
 
@@ -165,25 +165,25 @@ mode-pages =
     and no-field
     and tt
 
--- the pages that are not in the base have no instruction, whatever the word
-allPublished : List Page → ℕ → Bool
-allPublished [] w = true
-allPublished (r ∷ rs) w = both (isPublished (means r w)) (allPublished rs w)
+-- the pages that are not built have no instruction, whatever the word
+allUnbuilt : List Page → ℕ → Bool
+allUnbuilt [] w = true
+allUnbuilt (r ∷ rs) w = both (isUnbuilt (means r w)) (allUnbuilt rs w)
 
-published-fits : (d : Decoded) → T (isPublished d) → DecodedFits d
-published-fits (Base i) t = absurd t
-published-fits Published t = tt
-published-fits Nothing t = tt
+unbuilt-fits : (d : Decoded) → T (isUnbuilt d) → DecodedFits d
+unbuilt-fits (Built i) t = absurd t
+unbuilt-fits Unbuilt t = tt
+unbuilt-fits Nothing t = tt
 
-others-fit : (rs : List Page) → ((w : ℕ) → T (allPublished rs w)) → RowsFit rs
-unfolding RowsFit allPublished
+others-fit : (rs : List Page) → ((w : ℕ) → T (allUnbuilt rs w)) → RowsFit rs
+unfolding RowsFit allUnbuilt
 others-fit [] t = tt
 others-fit (r ∷ rs) t =
-    (λ w. published-fits (means r w) (both-left (isPublished (means r w)) (allPublished rs w) (t w)))
-    and others-fit rs (λ w. both-right (isPublished (means r w)) (allPublished rs w) (t w))
+    (λ w. unbuilt-fits (means r w) (both-left (isUnbuilt (means r w)) (allUnbuilt rs w) (t w)))
+    and others-fit rs (λ w. both-right (isUnbuilt (means r w)) (allUnbuilt rs w) (t w))
 
 other-pages : RowsFit otherPages
-unfolding allPublished
+unfolding allUnbuilt
 other-pages = others-fit otherPages (λ w. tt)
 
 pages-fit : RowsFit pages

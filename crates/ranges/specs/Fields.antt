@@ -20,7 +20,7 @@ use Rattle.instructions.specs.declared.Transfers.the-variants as Transfers
 use Rattle.instructions.specs.declared.Modes.{Modes}
 use Rattle.instructions.specs.declared.Modes.the-variants as Modes
 use Rattle.instructions.specs.declared.Decoded.{Decoded}
-use Rattle.instructions.specs.declared.Decoded.the-variants.{Base, Published, Nothing}
+use Rattle.instructions.specs.declared.Decoded.the-variants.{Built, Unbuilt, Nothing}
 
 -- the next ARP is a register's number
 abbrev pub NextFits : NextArp → Type 0
@@ -132,6 +132,6 @@ FieldsFit (Family.Modes i) = modesFits i
 
 -- of what a word is
 abbrev pub DecodedFits : Decoded → Type 0
-DecodedFits (Base i) = FieldsFit i
-DecodedFits Published = Unit {0}
+DecodedFits (Built i) = FieldsFit i
+DecodedFits Unbuilt = Unit {0}
 DecodedFits Nothing = Unit {0}

@@ -14,7 +14,7 @@ use Rattle.answers.specs.declared.Answer.the-variants.{Done}
 use Rattle.answers.specs.NumberLaws.{done-is}
 use Rattle.instructions.specs.declared.Instruction.{Instruction}
 use Rattle.instructions.specs.declared.Decoded.{Decoded}
-use Rattle.instructions.specs.declared.Decoded.the-variants.{Base, Published, Nothing}
+use Rattle.instructions.specs.declared.Decoded.the-variants.{Built, Unbuilt, Nothing}
 use Rattle.pages.specs.declared.Store.{Store}
 use Rattle.pages.specs.declared.Store.the-variants as Left
 use Rattle.pages.specs.declared.Jump.{Jump}
@@ -207,7 +207,7 @@ unfolding outputFull portSpent
 room-left t o m h e = leb-false _ _ (room-where (sends (t .port)) (leb o (m .«output_cursor»)) h e)
 
 module _ (rom input : List ℕ) (w : World) (k : WorldInRange rom input w) (e : stepOf rom input w .answer ≡ Done) where
-  base-in-range : (x : Instruction) → decodedAt rom (w .«data») (w .m) ≡ Base x → FieldsFit x → outputFull (traitsOf x) (length (w .output)) (w .m) ≡ false
+  base-in-range : (x : Instruction) → decodedAt rom (w .«data») (w .m) ≡ Built x → FieldsFit x → outputFull (traitsOf x) (length (w .output)) (w .m) ≡ false
       → WorldInRange rom input (stepOf rom input w .world)
   unfolding afterStore performed
   base-in-range x c g full =
@@ -237,8 +237,8 @@ module _ (rom input : List ℕ) (w : World) (k : WorldInRange rom input w) (e : 
   decoded-in-range : (c : Decoded) → decodedAt rom (w .«data») (w .m) ≡ c → DecodedFits c
       → NoneHolds (table c) → WorldInRange rom input (stepOf rom input w .world)
   unfolding table tableFor
-  decoded-in-range (Base x) c g n = base-in-range x c g (row-not (table (Base x)) 11 n)
-  decoded-in-range Published c g n = absurd (false≢true (sym (row-not (table Published) 4 n)))
+  decoded-in-range (Built x) c g n = base-in-range x c g (row-not (table (Built x)) 11 n)
+  decoded-in-range Unbuilt c g n = absurd (false≢true (sym (row-not (table Unbuilt) 4 n)))
   decoded-in-range Nothing c g n = absurd (false≢true (sym (row-not (table Nothing) 3 n)))
 
   done-in-range : WorldInRange rom input (stepOf rom input w .world)

@@ -10,7 +10,7 @@ use borrow.Author.Tests.{ltb-true, ltb-false}
 use Rattle.digits.specs.Digits.{digitOf, decimal}
 use Rattle.digits.specs.DigitLaws.{decimal-one, decimal-more}
 use Rattle.answers.specs.declared.Answer.{Answer}
-use Rattle.answers.specs.declared.Answer.the-variants.{Done, CellOutOfRange, SlicesUnfit, NoEncoding, NotInBase, ProgramAbsent, DataAbsent, NotRepeatable, AddressAbove, WrongPort, OutputFull, FileShort, FileVersion, FileRules, FileNoRoom}
+use Rattle.answers.specs.declared.Answer.the-variants.{Done, CellOutOfRange, SlicesUnfit, NoEncoding, NotBuilt, ProgramAbsent, DataAbsent, NotRepeatable, AddressAbove, WrongPort, OutputFull, FileShort, FileVersion, FileRules, FileNoRoom}
 use Rattle.answers.specs.Numbers.{numberOf}
 
 pub one-digit : (n : ℕ) → n < 10 → length (decimal n) ≤ 1
@@ -45,7 +45,7 @@ number-below Done = omega arith
 number-below CellOutOfRange = omega arith
 number-below SlicesUnfit = omega arith
 number-below NoEncoding = omega arith
-number-below NotInBase = omega arith
+number-below NotBuilt = omega arith
 number-below ProgramAbsent = omega arith
 number-below DataAbsent = omega arith
 number-below NotRepeatable = omega arith

@@ -11,7 +11,7 @@ use Rattle.machine.specs.declared.Machine.{Machine}
 use Rattle.answers.specs.Numbers.{isDone}
 use Rattle.instructions.specs.declared.Instruction.the-variants as Family
 use Rattle.instructions.specs.declared.Multiplier.the-variants.{Apac}
-use Rattle.instructions.specs.declared.Decoded.the-variants.{Base}
+use Rattle.instructions.specs.declared.Decoded.the-variants.{Built}
 use Rattle.pages.specs.declared.Operand.the-variants as Operand
 use Rattle.pages.specs.Traits.{traitsOf, multiplierTraits}
 use Rattle.pages.specs.declared.Jump.the-variants.{Past}
@@ -38,7 +38,7 @@ apac-page rom input u second =
     followed-follows (APAC (addressed Operand.Nothing (u .m))) Past 1 true .accumulation
     ∙ apac-works (u .m) (addressed Operand.Nothing (u .m)) (operand-alike Operand.Nothing (u .m))
 
-apac-step : (rom input : List ℕ) (u : World) → decodedAt rom (u .«data») (u .m) ≡ Base (Family.Multiplier Apac) → isDone (stepOf rom input u .answer) ≡ true
+apac-step : (rom input : List ℕ) (u : World) → decodedAt rom (u .«data») (u .m) ≡ Built (Family.Multiplier Apac) → isDone (stepOf rom input u .answer) ≡ true
     → accumulationOf (stepOf rom input u .world .m) ≡ productAdded (u .m .pm) (u .m .ovm) (accumulationOf (u .m))
 apac-step rom input u is done =
     rw (step-does rom input u (Family.Multiplier Apac) is done)
@@ -70,7 +70,7 @@ module _ (rom input : List ℕ) (w : World) (k : ℕ) (s : Stacks rom input w k)
   unfolding v
   start = began rom input w (s .repeat) k (s .repeat-gives) (s .repeat-first) (first .step-done)
 
-  mac-there : decodedAt rom (v .«data») (v .m) ≡ Base (s .accumulate)
+  mac-there : decodedAt rom (v .«data») (v .m) ≡ Built (s .accumulate)
   unfolding decodedAt wordAhead
   mac-there = rw (start .cnf, start .pc, start .same-data) (s .accumulate-second)
 
@@ -93,7 +93,7 @@ module _ (rom input : List ℕ) (w : World) (k : ℕ) (s : Stacks rom input w k)
   unfolding wrappedSum
   at-apac = omega (arith, middle .pc refl, start .pc)
 
-  apac-there : decodedAt rom (u .«data») (u .m) ≡ Base (Family.Multiplier Apac)
+  apac-there : decodedAt rom (u .«data») (u .m) ≡ Built (Family.Multiplier Apac)
   unfolding decodedAt wordAhead
   apac-there =
       rw (middle .cnf, at-apac, middle .program (wrappedSum (w .m .pc) 3), start .cnf, start .same-data) (s .apac-third)

@@ -12,7 +12,7 @@ use Rattle.instructions.specs.declared.Instruction.{Instruction}
 use Rattle.instructions.specs.declared.Instruction.the-variants as Family
 use Rattle.instructions.specs.declared.Modes.the-variants.{Rpt, Rptk}
 use Rattle.instructions.specs.declared.Multiplier.the-variants.{Mac}
-use Rattle.instructions.specs.declared.Decoded.the-variants.{Base, Nothing}
+use Rattle.instructions.specs.declared.Decoded.the-variants.{Built, Nothing}
 use Rattle.pages.specs.declared.Operand.the-variants.{At}
 use Rattle.pages.specs.Traits.{traitsOf, modesTraits, multiplierTraits}
 use Rattle.pages.specs.declared.Jump.the-variants.{Past}
@@ -76,7 +76,7 @@ module _ (rom input : List ℕ) (w : World) where
       let a = operand-alike (traitsOf (Family.Modes (Rpt x)) .operand) (w .m) in
       record { accumulation = rw (a .acc, a .p, a .ov); ovm = a .ovm; pm = a .pm; cnf = a .cnf; rptc = refl; pc = rw (a .pc); same-data = refl }
 
-  pub began : (r : Instruction) (k : ℕ) → Repeats w r k → decodedAt rom (w .«data») (w .m) ≡ Base r → isDone (stepOf rom input w .answer) ≡ true → Began w (stepOf rom input w .world) k
+  pub began : (r : Instruction) (k : ℕ) → Repeats w r k → decodedAt rom (w .«data») (w .m) ≡ Built r → isDone (stepOf rom input w .answer) ≡ true → Began w (stepOf rom input w .world) k
   began r k g is done = rw (step-does rom input w r is done) (repeats r k g)
 
 -- ---- one pass
@@ -121,7 +121,7 @@ module _ (rom : List ℕ) (cnf a word : ℕ) (d : List ℕ) (b : word < 2 ^ 16) 
 
 module _ (rom input : List ℕ) (w : World) (data-sized : Sized (w .«data»)) where
   goes : (i : Instruction) → Accumulates i
-      → Went rom w (afterStore (performed (traitsOf i) i (secondWord i rom (w .«data») (w .m)) rom (w .«data») input (w .m)) w) (pairFor (Base i) rom input w)
+      → Went rom w (afterStore (performed (traitsOf i) i (secondWord i rom (w .«data») (w .m)) rom (w .«data») input (w .m)) w) (pairFor (Built i) rom input w)
   unfolding afterStore performed passedMachine passedWrite effectOf traitsOf multiplierTraits ruleOf multiplierRule MACD writeOf dataAfter outputAfter wordsRead readWord pairFor
   goes _ (by-mac a) =
       went rom w (addressed (At a) (w .m)) (operand-alike (At a) (w .m)) _ _ _ (w .«data») _ (λ x. refl) (λ s. s)
@@ -130,18 +130,18 @@ module _ (rom input : List ℕ) (w : World) (data-sized : Sized (w .«data»)) w
       let v = moved-by rom (w .m .cnf) (addressOf (At a) (w .m)) word (w .«data») (data-sized .bits (addressOf (At a) (w .m))) (moveAllowed (w .m .cnf) (addressOf (At a) (w .m))) refl in
       went rom w (addressed (At a) (w .m)) (operand-alike (At a) (w .m)) word _ _ _ _ (v .program) (v .sized)
 
-  pub goes-on : (i : Instruction) → Accumulates i → decodedAt rom (w .«data») (w .m) ≡ Base i → isDone (stepOf rom input w .answer) ≡ true
+  pub goes-on : (i : Instruction) → Accumulates i → decodedAt rom (w .«data») (w .m) ≡ Built i → isDone (stepOf rom input w .answer) ≡ true
       → Went rom w (stepOf rom input w .world) (pairAt rom input w)
   unfolding pairAt
   goes-on i acc is done = rw (step-does rom input w i is done, is) (goes i acc)
 
   -- the words of a pass have 16 bits
-  pair-sized : (i : Instruction) → Accumulates i → Sized rom → (pairFor (Base i) rom input w .dataWord < 2 ^ 16) × (pairFor (Base i) rom input w .programWord < 2 ^ 16)
+  pair-sized : (i : Instruction) → Accumulates i → Sized rom → (pairFor (Built i) rom input w .dataWord < 2 ^ 16) × (pairFor (Built i) rom input w .programWord < 2 ^ 16)
   unfolding pairFor wordsRead readWord traitsOf multiplierTraits
   pair-sized _ (by-mac a) r = (data-sized .bits _, program-sized _ _ rom (w .«data») r data-sized)
   pair-sized _ (by-macd a) r = (data-sized .bits _, program-sized _ _ rom (w .«data») r data-sized)
 
-  pub read-sized : (i : Instruction) → Accumulates i → decodedAt rom (w .«data») (w .m) ≡ Base i → Sized rom → (pairAt rom input w .dataWord < 2 ^ 16) × (pairAt rom input w .programWord < 2 ^ 16)
+  pub read-sized : (i : Instruction) → Accumulates i → decodedAt rom (w .«data») (w .m) ≡ Built i → Sized rom → (pairAt rom input w .dataWord < 2 ^ 16) × (pairAt rom input w .programWord < 2 ^ 16)
   unfolding pairAt
   read-sized i acc is r = rw is (pair-sized i acc r)
 
@@ -182,12 +182,12 @@ run-to rom input (suc n) (suc most) w h done =
     run-goes-on rom input n w (o .step-done) ∙ run-to rom input n most (stepOf rom input w .world) (omega arith) (o .rest-done)
 
 -- the next pass meets the same instruction
-again-there : (rom : List ℕ) (w v : World) (pair : Pair) (i : Instruction) → Went rom w v pair → decodedAt rom (w .«data») (w .m) ≡ Base i → v .m .pc ≡ w .m .pc → decodedAt rom (v .«data») (v .m) ≡ Base i
+again-there : (rom : List ℕ) (w v : World) (pair : Pair) (i : Instruction) → Went rom w v pair → decodedAt rom (w .«data») (w .m) ≡ Built i → v .m .pc ≡ w .m .pc → decodedAt rom (v .«data») (v .m) ≡ Built i
 unfolding decodedAt
 again-there rom w v pair i g is p = rw (g .cnf, p, g .program (w .m .pc)) is
 
 pub all-passed : (rom input : List ℕ) (i : Instruction) → Accumulates i → Sized rom → (n k j : ℕ) (w : World) → Sized (w .«data»)
-    → decodedAt rom (w .«data») (w .m) ≡ Base i → w .m .rptc ≡ k → n ≤ suc k → isDone (runOf rom input (plus n j) w .answer) ≡ true
+    → decodedAt rom (w .«data») (w .m) ≡ Built i → w .m .rptc ≡ k → n ≤ suc k → isDone (runOf rom input (plus n j) w .answer) ≡ true
     → Passed rom input n k j w (after rom input n w)
 unfolding plus after pairsRead passed Words Every
 all-passed rom input i acc r zero k j w s is e l done =

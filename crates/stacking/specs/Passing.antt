@@ -16,7 +16,7 @@ use Rattle.dma.specs.declared.Address.the-variants as Mode
 use Rattle.dma.specs.declared.NextArp.{NextArp}
 use Rattle.dma.specs.declared.NextArp.the-variants as Next
 use Rattle.instructions.specs.declared.Decoded.{Decoded}
-use Rattle.instructions.specs.declared.Decoded.the-variants.{Base, Nothing}
+use Rattle.instructions.specs.declared.Decoded.the-variants.{Built, Nothing}
 use Rattle.pages.specs.Traits.{traitsOf}
 use Rattle.pages.specs.declared.Operand.{Operand}
 use Rattle.pages.specs.declared.Operand.the-variants as Operand
@@ -45,7 +45,7 @@ by-test : (t : Bool) (i : Instruction) (a b : Plan) → isDone (cond t a b .answ
 by-test true i a b h e = refl
 by-test false i a b h e = absurd (false≢true (sym e ∙ h))
 
-module _ (rom input : List ℕ) (w : World) (i : Instruction) (is : decodedAt rom (w .«data») (w .m) ≡ Base i) (done : isDone (stepOf rom input w .answer) ≡ true) where
+module _ (rom input : List ℕ) (w : World) (i : Instruction) (is : decodedAt rom (w .«data») (w .m) ≡ Built i) (done : isDone (stepOf rom input w .answer) ≡ true) where
   plan-done : planOf rom (w .«data») input (length (w .output)) (w .m) ≡ performed (traitsOf i) i (secondWord i rom (w .«data») (w .m)) rom (w .«data») input (w .m)
   unfolding planOf stepOf pagePlan
   plan-done =

@@ -14,7 +14,7 @@ use Rattle.dma.specs.declared.Address.{Address}
 use Rattle.instructions.specs.declared.Modes.the-variants.{Rpt, Rptk}
 use Rattle.instructions.specs.declared.Multiplier.the-variants.{Mac, Macd, Apac}
 use Rattle.instructions.specs.declared.Decoded.{Decoded}
-use Rattle.instructions.specs.declared.Decoded.the-variants.{Base, Published, Nothing}
+use Rattle.instructions.specs.declared.Decoded.the-variants.{Built, Unbuilt, Nothing}
 use Rattle.instructions.specs.Decode.{decodeOf}
 use Rattle.pages.specs.declared.Operand.the-variants.{At}
 use Rattle.pages.specs.Traits.{traitsOf}
@@ -30,11 +30,11 @@ use Rattle.frames.specs.Frames.{Pair, Near, exactSum, AllLeast}
 
 -- the data word and the program word that the next step reads
 unfoldable pub pairFor : Decoded → List ℕ → List ℕ → World → Pair
-pairFor (Base i) rom input w = record {
+pairFor (Built i) rom input w = record {
   dataWord = wordsRead (traitsOf i) (secondWord i rom (w .«data») (w .m)) rom (w .«data») input (w .m) .operand;
   programWord = wordsRead (traitsOf i) (secondWord i rom (w .«data») (w .m)) rom (w .«data») input (w .m) .table;
 }
-pairFor Published rom input w = record { dataWord = 0; programWord = 0 }
+pairFor Unbuilt rom input w = record { dataWord = 0; programWord = 0 }
 pairFor Nothing rom input w = record { dataWord = 0; programWord = 0 }
 
 unfoldable pub pairAt : List ℕ → List ℕ → World → Pair
@@ -73,12 +73,12 @@ pub record Stacks (rom input : List ℕ) (w : World) (k : ℕ) : Type 0 where
   pub shift-three : w .m .pm ≡ 3
   pub no-repeat : w .m .rptc ≡ 0
   pub repeat : Instruction
-  pub repeat-first : decodedAt rom (w .«data») (w .m) ≡ Base repeat
+  pub repeat-first : decodedAt rom (w .«data») (w .m) ≡ Built repeat
   pub repeat-gives : Repeats w repeat k
   pub accumulate : Instruction
-  pub accumulate-second : decodeOf (wordAhead rom 1 w) ≡ Base accumulate
+  pub accumulate-second : decodeOf (wordAhead rom 1 w) ≡ Built accumulate
   pub accumulates : Accumulates accumulate
-  pub apac-third : decodeOf (wordAhead rom 3 w) ≡ Base (Family.Multiplier Apac)
+  pub apac-third : decodeOf (wordAhead rom 3 w) ≡ Built (Family.Multiplier Apac)
   pub not-refused : isDone (runOf rom input (k + 3) w .answer) ≡ true
   pub rom-sized : Sized rom
   pub data-sized : Sized (w .«data»)
@@ -101,7 +101,7 @@ pub record Holds (rom input : List ℕ) (w : World) (k : ℕ) : Type 0 where
 
 -- the next step is the final product add
 abbrev pub AtApac : List ℕ → World → Type 0
-AtApac rom w = decodedAt rom (w .«data») (w .m) ≡ Base (Family.Multiplier Apac)
+AtApac rom w = decodedAt rom (w .«data») (w .m) ≡ Built (Family.Multiplier Apac)
 
 -- "for n = 128 OV is set exactly when all 256 words read are -32768, and otherwise the same bounds hold": no step before the last sets it, whatever the words are
 pub record HoldsAt128 (rom input : List ℕ) (w : World) (k : ℕ) : Type 0 where

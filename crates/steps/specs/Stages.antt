@@ -6,11 +6,11 @@ use Prim.Native.Nat.{ℕ}
 use Rattle.machine.specs.declared.Machine.{Machine}
 use Rattle.machine.specs.Range.{inRange}
 use Rattle.answers.specs.declared.Answer.{Answer}
-use Rattle.answers.specs.declared.Answer.the-variants.{Done, CellOutOfRange, SlicesUnfit, NoEncoding, NotInBase, ProgramAbsent, DataAbsent, NotRepeatable, AddressAbove, WrongPort, OutputFull}
+use Rattle.answers.specs.declared.Answer.the-variants.{Done, CellOutOfRange, SlicesUnfit, NoEncoding, NotBuilt, ProgramAbsent, DataAbsent, NotRepeatable, AddressAbove, WrongPort, OutputFull}
 use Rattle.answers.specs.Numbers.{isDone}
 use Rattle.instructions.specs.declared.Instruction.{Instruction}
 use Rattle.instructions.specs.declared.Decoded.{Decoded}
-use Rattle.instructions.specs.declared.Decoded.the-variants.{Base, Published, Nothing}
+use Rattle.instructions.specs.declared.Decoded.the-variants.{Built, Unbuilt, Nothing}
 use Rattle.pages.specs.Traits.{traitsOf}
 use Rattle.pages.specs.Addressing.{addressOf}
 use Rattle.board.specs.Regions.{programPresent}
@@ -29,8 +29,8 @@ instructionPlan i rom «data» input outputLength m =
     (passPlan (traitsOf i) i (secondWord i rom «data» m) rom «data» input outputLength m))
 
 unfoldable pub decodedPlan : Decoded → List ℕ → List ℕ → List ℕ → ℕ → Machine → Plan
-decodedPlan (Base i) rom «data» input outputLength m = instructionPlan i rom «data» input outputLength m
-decodedPlan Published rom «data» input outputLength m = refused m NotInBase
+decodedPlan (Built i) rom «data» input outputLength m = instructionPlan i rom «data» input outputLength m
+decodedPlan Unbuilt rom «data» input outputLength m = refused m NotBuilt
 decodedPlan Nothing rom «data» input outputLength m = refused m NoEncoding
 
 unfoldable pub fetchPlan : List ℕ → List ℕ → List ℕ → ℕ → Machine → Plan
@@ -82,20 +82,20 @@ module _ (rom «data» input : List ℕ) (outputLength : ℕ) (m : Machine) wher
       (cond (not (programPresent (m .cnf) (m .pc))) (refused m ProgramAbsent)
       (decodedPlan d rom «data» input outputLength m)))
   unfolding tableFor pagePlan decodedPlan instructionPlan
-  stages-for (Base i) =
+  stages-for (Built i) =
       behind _ CellOutOfRange _ _ m _ refl
       (behind _ SlicesUnfit _ _ m _ refl
       (behind _ ProgramAbsent _ _ m _ refl
       (past NoEncoding _ _ m
-      ∙ (past NotInBase _ _ m
+      ∙ (past NotBuilt _ _ m
       ∙ behind _ NotRepeatable _ _ m _ refl
       (behind _ ProgramAbsent _ _ m _ refl
       (last-rows i (secondWord i rom «data» m)))))))
-  stages-for Published =
+  stages-for Unbuilt =
       behind _ CellOutOfRange _ _ m _ refl
       (behind _ SlicesUnfit _ _ m _ refl
       (behind _ ProgramAbsent _ _ m _ refl
-      (past NoEncoding _ _ m ∙ stops NotInBase _ _ m refl)))
+      (past NoEncoding _ _ m ∙ stops NotBuilt _ _ m refl)))
   stages-for Nothing =
       behind _ CellOutOfRange _ _ m _ refl
       (behind _ SlicesUnfit _ _ m _ refl

@@ -7,7 +7,7 @@ use Rattle.machine.specs.declared.Machine.{Machine}
 use Rattle.answers.specs.declared.Answer.the-variants.{Done}
 use Rattle.answers.specs.Numbers.{isDone}
 use Rattle.instructions.specs.declared.Decoded.{Decoded}
-use Rattle.instructions.specs.declared.Decoded.the-variants.{Base, Published, Nothing}
+use Rattle.instructions.specs.declared.Decoded.the-variants.{Built, Unbuilt, Nothing}
 use Rattle.pages.specs.Traits.{traitsOf}
 use Rattle.steps.specs.declared.Plan.{Plan}
 use Rattle.steps.specs.Stores.{dataAfter, outputAfter}
@@ -15,10 +15,10 @@ use Rattle.steps.specs.Pass.{performed, refused}
 use Rattle.steps.specs.World.{World, Outcome, RunOutcome}
 use Rattle.steps.specs.Table.{decodedAt, secondWord, refusalOf, checksOf}
 
--- What the step does where nothing refuses it: the rule of the word's page. (A word that is no instruction of the base is always refused.)
+-- What the step does where nothing refuses it: the rule of the word's page. (A word that is no instruction, or none that is built, is always refused.)
 unfoldable pub pagePlan : Decoded → List ℕ → List ℕ → List ℕ → Machine → Plan
-pagePlan (Base i) rom «data» input m = performed (traitsOf i) i (secondWord i rom «data» m) rom «data» input m
-pagePlan Published rom «data» input m = refused m Done
+pagePlan (Built i) rom «data» input m = performed (traitsOf i) i (secondWord i rom «data» m) rom «data» input m
+pagePlan Unbuilt rom «data» input m = refused m Done
 pagePlan Nothing rom «data» input m = refused m Done
 
 -- cells, answer and store of a step, by value

@@ -13,7 +13,7 @@ use Rattle.answers.specs.declared.Answer.the-variants.{CellOutOfRange, SlicesUn
 use Rattle.answers.specs.Numbers.{isDone}
 use Rattle.instructions.specs.declared.Instruction.{Instruction}
 use Rattle.instructions.specs.declared.Decoded.{Decoded}
-use Rattle.instructions.specs.declared.Decoded.the-variants.{Base, Published, Nothing}
+use Rattle.instructions.specs.declared.Decoded.the-variants.{Built, Unbuilt, Nothing}
 use Rattle.pages.specs.Traits.{traitsOf}
 use Rattle.pages.specs.Addressing.{addressOf}
 use Rattle.board.specs.Regions.{programPresent}
@@ -61,10 +61,10 @@ module _ (rom d input : List ℕ) (outputLength : ℕ) (m : Machine) where
 
   decoded-fits : (x : Decoded) → length d ≡ 4096 → Fits (decodedPlan x rom d input outputLength m)
   unfolding decodedPlan instructionPlan
-  decoded-fits (Base i) h =
+  decoded-fits (Built i) h =
       refused-or (notRepeatable m i) NotRepeatable _
       (λ e. refused-or (secondAbsent m i) ProgramAbsent _ (λ f. pass-fits i (secondWord i rom d m) h))
-  decoded-fits Published h = record { fits = tt }
+  decoded-fits Unbuilt h = record { fits = tt }
   decoded-fits Nothing h = record { fits = tt }
 
   fetch-fits : length d ≡ 4096 → Fits (fetchPlan rom d input outputLength m)

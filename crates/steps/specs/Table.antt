@@ -7,10 +7,10 @@ use Rattle.alu.specs.Registers.{wrappedSum}
 use Rattle.machine.specs.declared.Machine.{Machine}
 use Rattle.machine.specs.Range.{inRange}
 use Rattle.answers.specs.declared.Answer.{Answer}
-use Rattle.answers.specs.declared.Answer.the-variants.{CellOutOfRange, SlicesUnfit, NoEncoding, NotInBase, ProgramAbsent, DataAbsent, NotRepeatable, AddressAbove, WrongPort, OutputFull}
+use Rattle.answers.specs.declared.Answer.the-variants.{CellOutOfRange, SlicesUnfit, NoEncoding, NotBuilt, ProgramAbsent, DataAbsent, NotRepeatable, AddressAbove, WrongPort, OutputFull}
 use Rattle.instructions.specs.declared.Instruction.{Instruction}
 use Rattle.instructions.specs.declared.Decoded.{Decoded}
-use Rattle.instructions.specs.declared.Decoded.the-variants.{Base, Published, Nothing}
+use Rattle.instructions.specs.declared.Decoded.the-variants.{Built, Unbuilt, Nothing}
 use Rattle.instructions.specs.Decode.{decodeOf}
 use Rattle.pages.specs.Traits.{traitsOf}
 use Rattle.pages.specs.Addressing.{addressOf}
@@ -31,21 +31,21 @@ secondAddress m = wrappedSum (m .pc) 1
 unfoldable pub secondWord : Instruction → List ℕ → List ℕ → Machine → ℕ
 secondWord i rom «data» m = cond (eqb (traitsOf i .words) 2) (programWord (m .cnf) (secondAddress m) rom «data») 0
 
--- a condition on the instruction, where the word is one of the base
-abbrev pub ofBase : (Instruction → Bool) → Decoded → Bool
-ofBase condition (Base i) = condition i
-ofBase condition Published = false
-ofBase condition Nothing = false
+-- a condition on the instruction, where the word is one
+abbrev pub ofBuilt : (Instruction → Bool) → Decoded → Bool
+ofBuilt condition (Built i) = condition i
+ofBuilt condition Unbuilt = false
+ofBuilt condition Nothing = false
 
 abbrev pub isNothing : Decoded → Bool
-isNothing (Base i) = false
-isNothing Published = false
+isNothing (Built i) = false
+isNothing Unbuilt = false
 isNothing Nothing = true
 
-abbrev pub isPublished : Decoded → Bool
-isPublished (Base i) = false
-isPublished Published = true
-isPublished Nothing = false
+abbrev pub isUnbuilt : Decoded → Bool
+isUnbuilt (Built i) = false
+isUnbuilt Unbuilt = true
+isUnbuilt Nothing = false
 
 -- "RPTC above 0 and its page says not repeatable"
 unfoldable pub notRepeatable : Machine → Instruction → Bool
@@ -62,14 +62,14 @@ tableFor d rom «data» input outputLength m =
     ∷ row SlicesUnfit (not (slicesFit m rom «data» input outputLength))
     ∷ row ProgramAbsent (not (programPresent (m .cnf) (m .pc)))
     ∷ row NoEncoding (isNothing d)
-    ∷ row NotInBase (isPublished d)
-    ∷ row NotRepeatable (ofBase (notRepeatable m) d)
-    ∷ row ProgramAbsent (ofBase (secondAbsent m) d)
-    ∷ row WrongPort (ofBase (λ i. wrongPort (traitsOf i .port)) d)
-    ∷ row AddressAbove (ofBase (λ i. addressAbove (traitsOf i) (addressOf (traitsOf i .operand) m)) d)
-    ∷ row DataAbsent (ofBase (λ i. dataAbsent (traitsOf i) (addressOf (traitsOf i .operand) m) m) d)
-    ∷ row ProgramAbsent (ofBase (λ i. tableAbsent (traitsOf i) (secondWord i rom «data» m) m) d)
-    ∷ row OutputFull (ofBase (λ i. outputFull (traitsOf i) outputLength m) d)
+    ∷ row NotBuilt (isUnbuilt d)
+    ∷ row NotRepeatable (ofBuilt (notRepeatable m) d)
+    ∷ row ProgramAbsent (ofBuilt (secondAbsent m) d)
+    ∷ row WrongPort (ofBuilt (λ i. wrongPort (traitsOf i .port)) d)
+    ∷ row AddressAbove (ofBuilt (λ i. addressAbove (traitsOf i) (addressOf (traitsOf i .operand) m)) d)
+    ∷ row DataAbsent (ofBuilt (λ i. dataAbsent (traitsOf i) (addressOf (traitsOf i .operand) m) m) d)
+    ∷ row ProgramAbsent (ofBuilt (λ i. tableAbsent (traitsOf i) (secondWord i rom «data» m) m) d)
+    ∷ row OutputFull (ofBuilt (λ i. outputFull (traitsOf i) outputLength m) d)
     ∷ []
 
 unfoldable pub refusalOf : List ℕ → List ℕ → List ℕ → ℕ → Machine → Answer
