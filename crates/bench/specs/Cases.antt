@@ -9,6 +9,7 @@ use Rattle.machine.specs.Reset.{resetMachine}
 use Rattle.answers.specs.Numbers.{numberOf}
 use Rattle.steps.specs.World.{Outcome}
 use Rattle.steps.specs.Step.{stepOf}
+use Rattle.board.specs.Given.{given}
 
 pub record Case : Type 0 where
   pub instruction : ℕ
@@ -26,7 +27,7 @@ holding address word = set (replicate 4096 0) address word
 
 -- what the step of a case leaves
 abbrev pub left : Case → Outcome
-left c = stepOf (holding 0 (c .instruction)) [] (record { m = c .m; «data» = holding dataAddress (c .dataWord); output = [] })
+left c = stepOf (given (holding 0 (c .instruction)) []) (record { m = c .m; «data» = holding dataAddress (c .dataWord); output = [] })
 
 -- M1 SQRA: word 0Fh, P 12Ch, ACC 1F4h, PM 0: T 0Fh, P E1h, ACC 320h, C 0
 abbrev m1 : Case

@@ -1,6 +1,7 @@
 pub mod Regions
 pub mod Slices
 pub mod Windows
+pub mod Given
 -- words of the laws
 pub mod RegionFacts
 pub mod SliceFacts

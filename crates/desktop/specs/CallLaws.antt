@@ -14,38 +14,39 @@ use Rattle.cells.specs.Cells.{machineOf, cellsOf}
 use Rattle.cells.specs.Checks.{cellsAnswer, cellsAfter}
 use Rattle.cells.specs.CheckLaws.{kept-after}
 use Rattle.desktop.specs.Calls.{called, worldOf, worldCalled, stepCalled, runDone, runCalled}
+use Rattle.board.specs.Given.{Given}
 
-module _ (rom input cells d o : List ℕ) where
+module _ (g : Given) (cells d o : List ℕ) where
   -- cells that are refused: their answer's number, and nothing else
   module _ {n : ℕ} (h : isDone (cellsAnswer cells) ≡ false) (k : n ≡ numberOf (cellsAnswer cells)) where
-    pub step-refused : called n cells d o ≡ stepCalled rom input cells d o
+    pub step-refused : called n cells d o ≡ stepCalled g cells d o
     unfolding stepCalled
     step-refused = simp h (rw k)
 
-    pub run-refused : (budget : ℕ) {steps : ℕ} → steps ≡ 0 → record { steps = steps; after = called n cells d o } ≡ runCalled rom input budget cells d o
+    pub run-refused : (budget : ℕ) {steps : ℕ} → steps ≡ 0 → record { steps = steps; after = called n cells d o } ≡ runCalled g budget cells d o
     unfolding runCalled
     run-refused budget s = simp h (rw (s, k))
 
   module _ {m : Machine} (h : isDone (cellsAnswer cells) ≡ true) (e : m ≡ machineOf cells) where
     pub step-made : (s : Stepped) {after d₂ o₂ : List ℕ} {n : ℕ}
-        → stepped s d₂ o₂ ≡ stepOf rom input (record { m = m; «data» = d; output = o })
+        → stepped s d₂ o₂ ≡ stepOf g (record { m = m; «data» = d; output = o })
         → after ≡ cellsAfter cells (s .m)
         → n ≡ numberOf (s .answer)
-        → called n after d₂ o₂ ≡ stepCalled rom input cells d o
+        → called n after d₂ o₂ ≡ stepCalled g cells d o
     unfolding stepCalled
     step-made s {after} {d₂} {o₂} {n} f a k =
-        let same : stepped s d₂ o₂ ≡ stepOf rom input (worldOf cells d o) = f ∙ rw e in
+        let same : stepped s d₂ o₂ ≡ stepOf g (worldOf cells d o) = f ∙ rw e in
         let cells₂ : after ≡ cellsOf (s .m) = a ∙ kept-after cells (s .m) h in
         simp h (rw (k, cells₂) (ap (λ (x : Outcome). worldCalled (x .answer) (x .world)) same))
 
     pub run-made : (budget : ℕ) (r : Ran) {after d₂ o₂ : List ℕ} {n steps : ℕ}
-        → ran r d₂ o₂ ≡ runOf rom input budget (record { m = m; «data» = d; output = o })
+        → ran r d₂ o₂ ≡ runOf g budget (record { m = m; «data» = d; output = o })
         → after ≡ cellsAfter cells (r .m)
         → steps ≡ r .steps
         → n ≡ numberOf (r .answer)
-        → record { steps = steps; after = called n after d₂ o₂ } ≡ runCalled rom input budget cells d o
+        → record { steps = steps; after = called n after d₂ o₂ } ≡ runCalled g budget cells d o
     unfolding runCalled
     run-made budget r {after} {d₂} {o₂} {n} f a s k =
-        let same : ran r d₂ o₂ ≡ runOf rom input budget (worldOf cells d o) = f ∙ rw e in
+        let same : ran r d₂ o₂ ≡ runOf g budget (worldOf cells d o) = f ∙ rw e in
         let cells₂ : after ≡ cellsOf (r .m) = a ∙ kept-after cells (r .m) h in
         simp h (rw (s, k, cells₂) (ap runDone same))

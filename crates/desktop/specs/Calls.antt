@@ -8,6 +8,7 @@ use Rattle.steps.specs.World.{World, RunOutcome}
 use Rattle.steps.specs.Step.{stepOf, runOf}
 use Rattle.cells.specs.Cells.{machineOf, cellsOf}
 use Rattle.cells.specs.Checks.{cellsAnswer}
+use Rattle.board.specs.Given.{Given}
 
 -- what a call gives, and what its cells, its data words and its output words are then
 pub record Called : Type 0 where
@@ -28,10 +29,10 @@ worldOf cells dataWords output = record { m = machineOf cells; «data» = dataWo
 abbrev pub worldCalled : Answer → World → Called
 worldCalled answer w = called (numberOf answer) (cellsOf (w .m)) (w .«data») (w .output)
 
-unfoldable pub stepCalled : List ℕ → List ℕ → List ℕ → List ℕ → List ℕ → Called
-stepCalled rom input cells dataWords output =
+unfoldable pub stepCalled : Given → List ℕ → List ℕ → List ℕ → Called
+stepCalled g cells dataWords output =
     cond (isDone (cellsAnswer cells))
-    (worldCalled (stepOf rom input (worldOf cells dataWords output) .answer) (stepOf rom input (worldOf cells dataWords output) .world))
+    (worldCalled (stepOf g (worldOf cells dataWords output) .answer) (stepOf g (worldOf cells dataWords output) .world))
     (called (numberOf (cellsAnswer cells)) cells dataWords output)
 
 -- the steps stand beside what a run gives
@@ -42,7 +43,7 @@ pub record RunCalled : Type 0 where
 abbrev pub runDone : RunOutcome → RunCalled
 runDone r = record { steps = r .steps; after = worldCalled (r .answer) (r .world) }
 
-unfoldable pub runCalled : List ℕ → List ℕ → ℕ → List ℕ → List ℕ → List ℕ → RunCalled
-runCalled rom input budget cells dataWords output =
-    cond (isDone (cellsAnswer cells)) (runDone (runOf rom input budget (worldOf cells dataWords output)))
+unfoldable pub runCalled : Given → ℕ → List ℕ → List ℕ → List ℕ → RunCalled
+runCalled g budget cells dataWords output =
+    cond (isDone (cellsAnswer cells)) (runDone (runOf g budget (worldOf cells dataWords output)))
     (record { steps = 0; after = called (numberOf (cellsAnswer cells)) cells dataWords output })

@@ -13,38 +13,39 @@ use Rattle.laws.specs.Steps.{refused-unchanged}
 use Rattle.cells.specs.Checks.{cellsAnswer}
 use Rattle.cell_laws.specs.CellLaws.{cells-machine}
 use Rattle.desktop.specs.Calls.{called, worldOf, worldCalled, stepCalled, runCalled}
+use Rattle.board.specs.Given.{Given}
 
 -- a run of no steps leaves the world that it got
-run-of-none : (rom input : List ℕ) (budget : ℕ) (w : World) → runOf rom input budget w .steps ≡ 0 → runOf rom input budget w .world ≡ w
+run-of-none : (g : Given) (budget : ℕ) (w : World) → runOf g budget w .steps ≡ 0 → runOf g budget w .world ≡ w
 unfolding runOf
-run-of-none rom input zero w h = refl
-run-of-none rom input (suc n) w h = by (isDone (stepOf rom input w .answer)) refl
+run-of-none g zero w h = refl
+run-of-none g (suc n) w h = by (isDone (stepOf g w .answer)) refl
   where
-    by : (t : Bool) → isDone (stepOf rom input w .answer) ≡ t → runOf rom input (suc n) w .world ≡ w
+    by : (t : Bool) → isDone (stepOf g w .answer) ≡ t → runOf g (suc n) w .world ≡ w
     by true e = absurd (omega (arith, simp e at h))
-    by false e = simp e (refused-unchanged rom input w e)
+    by false e = simp e (refused-unchanged g w e)
 
-module _ (rom input cells d o : List ℕ) where
+module _ (g : Given) (cells d o : List ℕ) where
   -- the world that was lent is the cells and the words that were lent
   same-called : (a : Answer) (w : World) → isDone (cellsAnswer cells) ≡ true → w ≡ worldOf cells d o → worldCalled a w ≡ called (numberOf a) cells d o
   same-called a w h e = rw (e, cells-machine cells h)
 
-  pub refused-step : eqb (stepCalled rom input cells d o .answer) 0 ≡ false → stepCalled rom input cells d o ≡ called (stepCalled rom input cells d o .answer) cells d o
+  pub refused-step : eqb (stepCalled g cells d o .answer) 0 ≡ false → stepCalled g cells d o ≡ called (stepCalled g cells d o .answer) cells d o
   unfolding stepCalled
   refused-step r = by (isDone (cellsAnswer cells)) refl
     where
-      by : (t : Bool) → isDone (cellsAnswer cells) ≡ t → stepCalled rom input cells d o ≡ called (stepCalled rom input cells d o .answer) cells d o
+      by : (t : Bool) → isDone (cellsAnswer cells) ≡ t → stepCalled g cells d o ≡ called (stepCalled g cells d o .answer) cells d o
       by true h =
-          simp h (same-called (stepOf rom input (worldOf cells d o) .answer) (stepOf rom input (worldOf cells d o) .world) h (refused-unchanged rom input (worldOf cells d o) (simp h at r)))
+          simp h (same-called (stepOf g (worldOf cells d o) .answer) (stepOf g (worldOf cells d o) .world) h (refused-unchanged g (worldOf cells d o) (simp h at r)))
       by false h = simp h
 
-  pub run-no-steps : (budget : ℕ) → runCalled rom input budget cells d o .steps ≡ 0
-      → runCalled rom input budget cells d o .after ≡ called (runCalled rom input budget cells d o .after .answer) cells d o
+  pub run-no-steps : (budget : ℕ) → runCalled g budget cells d o .steps ≡ 0
+      → runCalled g budget cells d o .after ≡ called (runCalled g budget cells d o .after .answer) cells d o
   unfolding runCalled
   run-no-steps budget none = by (isDone (cellsAnswer cells)) refl
     where
       by : (t : Bool) → isDone (cellsAnswer cells) ≡ t
-          → runCalled rom input budget cells d o .after ≡ called (runCalled rom input budget cells d o .after .answer) cells d o
+          → runCalled g budget cells d o .after ≡ called (runCalled g budget cells d o .after .answer) cells d o
       by true h =
-          simp h (same-called (runOf rom input budget (worldOf cells d o) .answer) (runOf rom input budget (worldOf cells d o) .world) h (run-of-none rom input budget (worldOf cells d o) (simp h at none)))
+          simp h (same-called (runOf g budget (worldOf cells d o) .answer) (runOf g budget (worldOf cells d o) .world) h (run-of-none g budget (worldOf cells d o) (simp h at none)))
       by false h = simp h

@@ -4,6 +4,7 @@ ghost use Rattle.machine.specs.Reset.{resetMachine};
 ghost use Rattle.answers.specs.Numbers.{numberOf};
 ghost use Rattle.cells.specs.Checks.{lengthAnswer, cellsAfter};
 ghost use Rattle.desktop.specs.Calls.{called, stepCalled, runCalled};
+ghost use Rattle.board.specs.Given.{given};
 use cell_calls::cells_number;
 use cell_calls::cells_pass;
 use cell_calls::put_run;
@@ -30,7 +31,7 @@ pub extern "C" fn crowmitten_step(
     input: &[u16],
     output: &mut [u16],
 ) -> u32
-    ensures { λ r. ⌜ called r (now (cells .exit)) (now («data» .exit)) (now (output .exit)) ≡ stepCalled (now (rom .entry)) (now (input .entry)) (now (cells .entry)) (now («data» .entry)) (now (output .entry)) ⌝ }
+    ensures { λ r. ⌜ called r (now (cells .exit)) (now («data» .exit)) (now (output .exit)) ≡ stepCalled (given (now (rom .entry)) (now (input .entry))) (now (cells .entry)) (now («data» .entry)) (now (output .entry)) ⌝ }
 {
     if !cells_pass(cells) {
         return cells_number(cells);
@@ -51,7 +52,7 @@ pub extern "C" fn crowmitten_run(
     budget: u16,
     steps: &mut u32,
 ) -> u32
-    ensures { λ r. ⌜ record { steps = now (steps .exit); after = called r (now (cells .exit)) (now («data» .exit)) (now (output .exit)) } ≡ runCalled (now (rom .entry)) (now (input .entry)) budget (now (cells .entry)) (now («data» .entry)) (now (output .entry)) ⌝ }
+    ensures { λ r. ⌜ record { steps = now (steps .exit); after = called r (now (cells .exit)) (now («data» .exit)) (now (output .exit)) } ≡ runCalled (given (now (rom .entry)) (now (input .entry))) budget (now (cells .entry)) (now («data» .entry)) (now (output .entry)) ⌝ }
 {
     if !cells_pass(cells) {
         return refused_run(cells, steps);

@@ -1,116 +1,100 @@
 -- Checks 1 and 2 made once, before a step or a run: proofs.
 use mathlib.Core.Path.{_≡_, refl, sym, _∙_, ap}
-use mathlib.Core.Bool.{Bool, true, false, not, cond, false≢true}
+use mathlib.Core.Bool.{Bool, true, false}
 use mathlib.Core.List.{List, [], _∷_}
 use Prim.Native.Nat.{ℕ, zero, suc, _+_, _-_, _^_, _≤_, _<_}
 use lib.ListN.{length, getD}
 use Rattle.machine.specs.declared.Machine.{Machine}
 use Rattle.machine.specs.Range.{inRange}
 use Rattle.answers.specs.declared.Answer.{Answer}
-use Rattle.answers.specs.declared.Answer.the-variants.{Done, CellOutOfRange, SlicesUnfit}
+use Rattle.answers.specs.declared.Answer.the-variants.{Done}
 use Rattle.answers.specs.Numbers.{isDone}
 use Rattle.answers.specs.NumberLaws.{done-is}
 use Rattle.board.specs.Slices.{slicesFit}
-use Rattle.steps.specs.declared.Plan.{Plan}
-use Rattle.steps.specs.Rows.{row, firstGiven}
+use Rattle.board.specs.Given.{Given}
+use Rattle.steps.specs.Rows.{NoneHolds}
 use Rattle.steps.specs.Stores.{dataAfter, outputAfter}
 use Rattle.steps.specs.Pass.{refused}
 use Rattle.steps.specs.StoreLaws.{WriteFits}
 use Rattle.steps.specs.World.{World, Outcome, RunOutcome}
-use Rattle.steps.specs.Table.{checksOf}
+use Rattle.steps.specs.Table.{checksOf, checkRows}
 use Rattle.steps.specs.Step.{planOf, afterStore, stepOf, runOf, oneMore}
 use Rattle.steps.specs.Stages.{fetchPlan, stages}
 use Rattle.kinds.specs.Table.{kindTable}
 use Rattle.fetching.specs.ByTable.{fetchPlanBy}
 use Rattle.fetching.specs.TableLaws.{fetch-by-kinds}
 use Rattle.steps.specs.StepLaws.{step-fits, Running, running-begins, running-goes, running-ends}
+use Rattle.steps.specs.RowLaws.{Refusals, all-refuse, none-from, row-not, plan-done, plan-by-first}
 use Rattle.ranges.specs.Ranges.{WordsFit, WordSized, WorldInRange}
 use Rattle.ranges.specs.Operands.{program-word-lt}
 use Rattle.ranges.specs.Steps.{step-in-range}
+use Rattle.ranges.specs.Runs.{checks-done}
+use borrow.Author.Tests.{not-false}
 
--- the two checks by their tests
-checks : Bool → Bool → Answer
-checks a b = firstGiven (row CellOutOfRange (not a) ∷ row SlicesUnfit (not b) ∷ [])
+module _ (g : Given) (d : List ℕ) (o : ℕ) (m : Machine) where
+  check-refusals : Refusals (checkRows g d o m)
+  unfolding checkRows
+  check-refusals = all-refuse (checkRows g d o m) refl
 
--- a plan behind the two checks
-behind : Bool → Bool → Machine → Plan → Plan
-behind a b m n = cond (not a) (refused m CellOutOfRange) (cond (not b) (refused m SlicesUnfit) n)
+  none-checked : checksOf g d o m ≡ Done → NoneHolds (checkRows g d o m)
+  unfolding checksOf
+  none-checked e = none-from (checkRows g d o m) check-refusals (ap isDone e)
 
-passed : (a b : Bool) (m : Machine) (n : Plan) → checks a b ≡ Done → behind a b m n ≡ n
-unfolding checks behind firstGiven
-passed true true m n e = refl
-passed true false m n e = absurd (false≢true (ap isDone e))
-passed false b m n e = absurd (false≢true (ap isDone e))
+  -- what checks 1 and 2 have passed
+  checked-by : checksOf g d o m ≡ Done → (inRange m ≡ true) × (slicesFit m (g .rom) d (g .input) o ≡ true)
+  unfolding checkRows
+  checked-by e = (not-false _ (row-not (checkRows g d o m) "1" (none-checked e)), not-false _ (row-not (checkRows g d o m) "2" (none-checked e)))
 
-failed : (a b : Bool) (m : Machine) (n : Plan) → isDone (checks a b) ≡ false → behind a b m n ≡ refused m (checks a b)
-unfolding checks behind firstGiven
-failed true true m n e = absurd (false≢true (sym e))
-failed true false m n e = refl
-failed false b m n e = refl
+  checked-plan : checksOf g d o m ≡ Done → planOf g d o m ≡ fetchPlan g d o m
+  checked-plan e = stages g d o m ∙ plan-done m (fetchPlan g d o m) (checkRows g d o m) (none-checked e)
 
-both : (a b : Bool) → a ≡ true → b ≡ true → checks a b ≡ Done
-unfolding checks firstGiven
-both a b ha hb = rw (ha, hb) refl
-
-both-of : (a b : Bool) → checks a b ≡ Done → (a ≡ true) × (b ≡ true)
-unfolding checks firstGiven
-both-of true true e = (refl, refl)
-both-of true false e = absurd (false≢true (ap isDone e))
-both-of false b e = absurd (false≢true (ap isDone e))
-
-module _ (rom d input : List ℕ) (o : ℕ) (m : Machine) where
-  checked-plan : checksOf rom d input o m ≡ Done → planOf rom d input o m ≡ fetchPlan rom d input o m
-  unfolding checksOf checks behind
-  checked-plan e = stages rom d input o m ∙ passed (inRange m) (slicesFit m rom d input o) m _ e
-
-  pub unchecked-plan : isDone (checksOf rom d input o m) ≡ false → planOf rom d input o m ≡ refused m (checksOf rom d input o m)
-  unfolding checksOf checks behind
-  unchecked-plan e = stages rom d input o m ∙ failed (inRange m) (slicesFit m rom d input o) m _ e
+  pub unchecked-plan : isDone (checksOf g d o m) ≡ false → planOf g d o m ≡ refused m (checksOf g d o m)
+  unfolding checksOf
+  unchecked-plan e = stages g d o m ∙ plan-by-first m (fetchPlan g d o m) (checkRows g d o m) check-refusals ∙ rw e
 
   -- the plan that the code makes, by a table that is lent to it
-  module _ (kinds : List ℕ) (k : kinds ≡ kindTable) (r : WordsFit rom) (w : WordsFit d) (e : checksOf rom d input o m ≡ Done) where
-    pub table-plan : fetchPlanBy kinds rom d input o m ≡ planOf rom d input o m
-    table-plan = rw (k, checked-plan e) (fetch-by-kinds rom d input o m (program-word-lt (m .cnf) (m .pc) rom d r w))
+  module _ (kinds : List ℕ) (k : kinds ≡ kindTable) (r : WordsFit (g .rom)) (w : WordsFit d) (e : checksOf g d o m ≡ Done) where
+    pub table-plan : fetchPlanBy kinds g d o m ≡ planOf g d o m
+    table-plan = rw (k, checked-plan e) (fetch-by-kinds g d o m (program-word-lt (m .cnf) (m .pc) (g .rom) d r w))
 
-    pub table-fits : WriteFits (fetchPlanBy kinds rom d input o m .write) (length d)
-    table-fits = rw table-plan (step-fits rom d input o m)
+    pub table-fits : WriteFits (fetchPlanBy kinds g d o m .write) (length d)
+    table-fits = rw table-plan (step-fits g d o m)
 
-module _ (rom input : List ℕ) where
+module _ (g : Given) where
   -- the checks of a world
   abbrev pub checksIn : World → Answer
-  checksIn w = checksOf rom (w .«data») input (length (w .output)) (w .m)
+  checksIn w = checksOf g (w .«data») (length (w .output)) (w .m)
 
-  pub refused-step : (w : World) → isDone (checksIn w) ≡ false → stepOf rom input w ≡ record { world = w; answer = checksIn w }
+  pub refused-step : (w : World) → isDone (checksIn w) ≡ false → stepOf g w ≡ record { world = w; answer = checksIn w }
   unfolding stepOf afterStore dataAfter outputAfter
-  refused-step w e = rw (unchecked-plan rom (w .«data») input (length (w .output)) (w .m) e) refl
+  refused-step w e = rw (unchecked-plan g (w .«data») (length (w .output)) (w .m) e) refl
 
-  pub refused-run : (budget : ℕ) (w : World) → isDone (checksIn w) ≡ false → runOf rom input budget w ≡ record { world = w; steps = 0; answer = checksIn w }
+  pub refused-run : (budget : ℕ) (w : World) → isDone (checksIn w) ≡ false → runOf g budget w ≡ record { world = w; steps = 0; answer = checksIn w }
   unfolding runOf
   refused-run zero w e = refl
   refused-run (suc n) w e = rw (refused-step w e, e) refl
 
-  pub in-range-checks : (w : World) → WorldInRange rom input w → checksIn w ≡ Done
-  unfolding checksOf checks
-  in-range-checks w k = both _ _ (k .in-range) (k .slices-fit)
+  pub in-range-checks : (w : World) → WorldInRange g w → checksIn w ≡ Done
+  in-range-checks w k = checks-done g (w .«data») (length (w .output)) (w .m) (k .in-range) (k .slices-fit)
 
   -- what the loop of a run keeps besides: the world is in range
   pub record Going (budget : ℕ) (w₀ w : World) (k : ℕ) : Type 0 where
-    pub running : Running rom input budget w₀ w k
-    pub in-range : WorldInRange rom input w
+    pub running : Running g budget w₀ w k
+    pub in-range : WorldInRange g w
 
-  module _ (budget : ℕ) (w₀ w : World) (k : ℕ) (g : Going budget w₀ w k) where
+  module _ (budget : ℕ) (w₀ w : World) (k : ℕ) (going : Going budget w₀ w k) where
     pub going-checks : checksIn w ≡ Done
-    going-checks = in-range-checks w (g .in-range)
+    going-checks = in-range-checks w (going .in-range)
 
-    pub going-on : (out : Outcome) → out ≡ stepOf rom input w → k < budget → isDone (out .answer) ≡ true
+    pub going-on : (out : Outcome) → out ≡ stepOf g w → k < budget → isDone (out .answer) ≡ true
         → length (out .world .«data») ≡ length (w .«data») → length (out .world .output) ≡ length (w .output) → Going budget w₀ (out .world) (k + 1)
     going-on out e l h dl ol = record {
-      running = running-goes rom input budget w₀ w k (g .running) out e l h dl ol;
-      in-range = rw e (step-in-range rom input w (g .in-range));
+      running = running-goes g budget w₀ w k (going .running) out e l h dl ol;
+      in-range = rw e (step-in-range g w (going .in-range));
     }
 
-    pub going-ends : budget ≤ k → record { world = w; steps = k; answer = Done } ≡ runOf rom input budget w₀
-    going-ends l = rw (← going-checks) (running-ends rom input budget w₀ w k (g .running) l)
+    pub going-ends : budget ≤ k → record { world = w; steps = k; answer = Done } ≡ runOf g budget w₀
+    going-ends l = rw (← going-checks) (running-ends g budget w₀ w k (going .running) l)
 
 -- ---- what the types of lent words and cells tell
 
@@ -118,14 +102,13 @@ pub words-fit : (l : List ℕ) → ((i : ℕ) → getD l i 0 < 2 ^ 16) → Words
 words-fit [] f = tt
 words-fit (x ∷ l) f = (f 0, words-fit l (λ i. f (suc i)))
 
-module _ (rom input : List ℕ) (budget : ℕ) (w : World) where
-  pub going-begins : checksOf rom (w .«data») input (length (w .output)) (w .m) ≡ Done
-      → WordSized (w .m) → WordsFit rom → WordsFit input → WordsFit (w .«data») → WordsFit (w .output) → Going rom input budget w w 0
-  unfolding checksOf checks
+module _ (g : Given) (budget : ℕ) (w : World) where
+  pub going-begins : checksOf g (w .«data») (length (w .output)) (w .m) ≡ Done
+      → WordSized (w .m) → WordsFit (g .rom) → WordsFit (g .input) → WordsFit (w .«data») → WordsFit (w .output) → Going g budget w w 0
   going-begins e sized r i d o =
-      let b = both-of (inRange (w .m)) (slicesFit (w .m) rom (w .«data») input (length (w .output))) e in
+      let b = checked-by g (w .«data») (length (w .output)) (w .m) e in
       record {
-        running = running-begins rom input budget w;
+        running = running-begins g budget w;
         in-range = record { in-range = b .0; slices-fit = b .1; sized = sized; rom-words = r; input-words = i; data-words = d; output-words = o };
       }
 
@@ -135,22 +118,22 @@ module _ (rom input : List ℕ) (budget : ℕ) (w : World) where
 abbrev pub outcomeOf : RunOutcome → Outcome
 outcomeOf r = record { world = r .world; answer = r .answer }
 
-module _ (rom input : List ℕ) (w : World) where
-  last-done : (a : Answer) → isDone a ≡ true → checksIn rom input (stepOf rom input w .world) ≡ Done → stepOf rom input w .answer ≡ a
-      → outcomeOf (oneMore (runOf rom input 0 (stepOf rom input w .world))) ≡ stepOf rom input w
+module _ (g : Given) (w : World) where
+  last-done : (a : Answer) → isDone a ≡ true → checksIn g (stepOf g w .world) ≡ Done → stepOf g w .answer ≡ a
+      → outcomeOf (oneMore (runOf g 0 (stepOf g w .world))) ≡ stepOf g w
   unfolding runOf
-  last-done a d k e = ap (λ (x : Answer). record { world = stepOf rom input w .world; answer = x }) (k ∙ sym (e ∙ done-is a d))
+  last-done a d k e = ap (λ (x : Answer). record { world = stepOf g w .world; answer = x }) (k ∙ sym (e ∙ done-is a d))
 
-  one-checked : WorldInRange rom input w → (t : Bool) → isDone (stepOf rom input w .answer) ≡ t
-      → outcomeOf (runOf rom input 1 w) ≡ stepOf rom input w
+  one-checked : WorldInRange g w → (t : Bool) → isDone (stepOf g w .answer) ≡ t
+      → outcomeOf (runOf g 1 w) ≡ stepOf g w
   unfolding runOf
-  one-checked k true e = rw e (last-done _ e (in-range-checks rom input (stepOf rom input w .world) (step-in-range rom input w k)) refl)
+  one-checked k true e = rw e (last-done _ e (in-range-checks g (stepOf g w .world) (step-in-range g w k)) refl)
   one-checked k false e = rw e refl
 
-  one-by : (t : Bool) → isDone (checksIn rom input w) ≡ t → (isDone (checksIn rom input w) ≡ true → WorldInRange rom input w)
-      → outcomeOf (runOf rom input 1 w) ≡ stepOf rom input w
-  one-by true e f = one-checked (f e) (isDone (stepOf rom input w .answer)) refl
-  one-by false e f = rw (refused-run rom input 1 w e, refused-step rom input w e) refl
+  one-by : (t : Bool) → isDone (checksIn g w) ≡ t → (isDone (checksIn g w) ≡ true → WorldInRange g w)
+      → outcomeOf (runOf g 1 w) ≡ stepOf g w
+  one-by true e f = one-checked (f e) (isDone (stepOf g w .answer)) refl
+  one-by false e f = rw (refused-run g 1 w e, refused-step g w e) refl
 
-  pub one-step : (isDone (checksIn rom input w) ≡ true → WorldInRange rom input w) → outcomeOf (runOf rom input 1 w) ≡ stepOf rom input w
-  one-step f = one-by (isDone (checksIn rom input w)) refl f
+  pub one-step : (isDone (checksIn g w) ≡ true → WorldInRange g w) → outcomeOf (runOf g 1 w) ≡ stepOf g w
+  one-step f = one-by (isDone (checksIn g w)) refl f

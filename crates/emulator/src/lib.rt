@@ -14,6 +14,7 @@ ghost use Rattle.steps.specs.StoreLaws.{WriteFits};
 ghost use Rattle.steps.specs.Table.{checksOf};
 ghost use Rattle.steps.specs.Step.{stepOf, runOf};
 ghost use Rattle.emulator.specs.Outcomes.{stepped, ran};
+ghost use Rattle.board.specs.Given.{given};
 
 pub struct Stepped {
     pub m: Machine,
@@ -57,8 +58,8 @@ fn checked_step(
     input: &[u16],
     output: &mut [u16],
 ) -> Stepped
-    requires { ⌜ (now kinds ≡ kindTable) × (checksOf (now rom) (now «data») (now input) (length (now output)) m ≡ Done) ⌝ }
-    ensures { λ r. ⌜ stepped r (now («data» .exit)) (now (output .exit)) ≡ stepOf (now (rom .entry)) (now (input .entry)) (record { m = m; «data» = now («data» .entry); output = now (output .entry) }) ⌝ }
+    requires { ⌜ (now kinds ≡ kindTable) × (checksOf (given (now rom) (now input)) (now «data») (length (now output)) m ≡ Done) ⌝ }
+    ensures { λ r. ⌜ stepped r (now («data» .exit)) (now (output .exit)) ≡ stepOf (given (now (rom .entry)) (now (input .entry))) (record { m = m; «data» = now («data» .entry); output = now (output .entry) }) ⌝ }
 {
     let p = plan_fetched(kinds, rom, &data[..], input, output.len(), m);
     let n = p.m;
@@ -70,7 +71,7 @@ fn checked_step(
 
 // Checks 1 and 2.
 fn check(m: Machine, rom: &[u16], data: &[u16], input: &[u16], output_length: usize) -> Answer
-    ensures { λ r. ⌜ r ≡ checksOf (now (rom .entry)) (now («data» .entry)) (now (input .entry)) «output_length» m ⌝ }
+    ensures { λ r. ⌜ r ≡ checksOf (given (now (rom .entry)) (now (input .entry))) (now («data» .entry)) «output_length» m ⌝ }
 {
     if !m.in_range() {
         return Answer::CellOutOfRange;
@@ -91,7 +92,7 @@ pub fn run(
     output: &mut [u16],
     budget: u16,
 ) -> Ran
-    ensures { λ r. ⌜ ran r (now («data» .exit)) (now (output .exit)) ≡ runOf (now (rom .entry)) (now (input .entry)) budget (record { m = m; «data» = now («data» .entry); output = now (output .entry) }) ⌝ }
+    ensures { λ r. ⌜ ran r (now («data» .exit)) (now (output .exit)) ≡ runOf (given (now (rom .entry)) (now (input .entry))) budget (record { m = m; «data» = now («data» .entry); output = now (output .entry) }) ⌝ }
 {
     let checked = check(m, rom, &data[..], input, output.len());
     if !is_done(checked) {
@@ -129,7 +130,7 @@ pub fn run(
 
 // A run of one step: checks 1 and 2, and the step.
 pub fn step(m: Machine, rom: &[u16], data: &mut [u16], input: &[u16], output: &mut [u16]) -> Stepped
-    ensures { λ r. ⌜ stepped r (now («data» .exit)) (now (output .exit)) ≡ stepOf (now (rom .entry)) (now (input .entry)) (record { m = m; «data» = now («data» .entry); output = now (output .entry) }) ⌝ }
+    ensures { λ r. ⌜ stepped r (now («data» .exit)) (now (output .exit)) ≡ stepOf (given (now (rom .entry)) (now (input .entry))) (record { m = m; «data» = now («data» .entry); output = now (output .entry) }) ⌝ }
 {
     let ran = run(m, rom, data, input, output, 1);
     let after = ran.m;

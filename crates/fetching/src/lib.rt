@@ -14,6 +14,7 @@ ghost use mathlib.Core.Path.{_≡_};
 ghost use mathlib.Core.Bool.{cond, not, _&&_};
 ghost use lib.Dec.{ltb};
 ghost use Rattle.board.specs.Windows.{programWord};
+ghost use Rattle.board.specs.Given.{given};
 ghost use Rattle.steps.specs.Stages.{instructionPlan, decodedPlan};
 ghost use Rattle.fetching.specs.ByTable.{fetchPlanBy};
 
@@ -46,7 +47,7 @@ fn plan_instruction<'a>(
     output_length: usize,
     m: Machine,
 ) -> Plan
-    ensures { λ r. ⌜ r ≡ instructionPlan i (now (rom .entry)) (now («data» .entry)) (now (input .entry)) «output_length» m ⌝ }
+    ensures { λ r. ⌜ r ≡ instructionPlan i (given (now (rom .entry)) (now (input .entry))) (now («data» .entry)) «output_length» m ⌝ }
 {
     let t = traits_of(i);
     if is_unrepeatable(m.rptc, t.repeatable) {
@@ -70,7 +71,7 @@ fn plan_decoded<'a>(
     output_length: usize,
     m: Machine,
 ) -> Plan
-    ensures { λ r. ⌜ r ≡ decodedPlan d (now (rom .entry)) (now («data» .entry)) (now (input .entry)) «output_length» m ⌝ }
+    ensures { λ r. ⌜ r ≡ decodedPlan d (given (now (rom .entry)) (now (input .entry))) (now («data» .entry)) «output_length» m ⌝ }
 {
     match d {
         Decoded::Built(i) => plan_instruction(i, rom, data, input, output_length, m),
@@ -88,7 +89,7 @@ pub fn plan_fetched<'a>(
     output_length: usize,
     m: Machine,
 ) -> Plan
-    ensures { λ r. ⌜ r ≡ fetchPlanBy (now (kinds .entry)) (now (rom .entry)) (now («data» .entry)) (now (input .entry)) «output_length» m ⌝ }
+    ensures { λ r. ⌜ r ≡ fetchPlanBy (now (kinds .entry)) (given (now (rom .entry)) (now (input .entry))) (now («data» .entry)) «output_length» m ⌝ }
 {
     if !regions::program_present(m.cnf, m.pc) {
         return refuse(m, Answer::ProgramAbsent);

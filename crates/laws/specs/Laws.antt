@@ -1,9 +1,11 @@
 -- The laws of steps and runs, as statements.
 use mathlib.Core.Path.{_≡_}
-use mathlib.Core.Bool.{true, false}
+use mathlib.Core.Bool.{true, false, Bool, cond}
 use mathlib.Core.List.{List, [], _∷_, _++_}
 use Prim.Native.Nat.{ℕ, zero, suc, _+_, _*_, _-_, _≤_, _<_}
+use Prim.Native.String.{String}
 use lib.ListN.{length}
+use lib.Dec.{eqb}
 use denote.Ref.{RefT, ptr, now}
 use Rattle.alu.specs.Registers.{wrappedSum}
 use Rattle.machine.specs.declared.Machine.{Machine}
@@ -20,82 +22,83 @@ use Rattle.answers.specs.Numbers.{numberOf, isDone}
 use Rattle.board.specs.Regions.{inRom, inProgramB0, programPresent}
 use Rattle.board.specs.Slices.{slicesFit}
 use Rattle.board.specs.Windows.{windowStart}
+use Rattle.board.specs.Given.{Given}
 use Rattle.steps.specs.declared.Write.{Write}
-use Rattle.steps.specs.Rows.{Row, row, firstGiven}
+use Rattle.steps.specs.Rows.{Row, row, firstGiven, NoneHolds}
 use Rattle.steps.specs.Refusals.{wrongPort, dataAbsent}
 use Rattle.steps.specs.Stores.{dataAfter, outputAfter}
 use Rattle.steps.specs.Pass.{effectOf, passedWrite}
 use Rattle.steps.specs.World.{World, RunOutcome}
 use Rattle.steps.specs.Table.{decodedAt, secondWord, notRepeatable, secondAbsent, tableFor, checksOf}
-use Rattle.steps.specs.Step.{stepOf, runOf}
+use Rattle.steps.specs.Step.{stepOf, runOf, rowsOf, worldAfter}
 
 -- ---- a refused step
 
 -- "A refusal returns the state given, and data, output and cursors hold what they held before that step."
 abbrev pub RefusedUnchanged : Type 0
-RefusedUnchanged = (rom input : List ℕ) (w : World) → isDone (stepOf rom input w .answer) ≡ false → stepOf rom input w .world ≡ w
+RefusedUnchanged = (g : Given) (w : World) → isDone (stepOf g w .answer) ≡ false → stepOf g w .world ≡ w
 
 -- ---- the answers
 
--- 0 to 10 are the numbers of a step and of a run in the table "Numbers that come back"
+-- the numbers of a step and of a run in the table "Numbers that come back"
+unfoldable pub stepNumbers : List ℕ
+stepNumbers = 0 ∷ 1 ∷ 2 ∷ 3 ∷ 4 ∷ 5 ∷ 6 ∷ 7 ∷ 8 ∷ 9 ∷ 10 ∷ []
+
+-- n is one of the numbers
+unfoldable pub isAmong : ℕ → List ℕ → Bool
+isAmong n [] = false
+isAmong n (k ∷ ks) = cond (eqb n k) true (isAmong n ks)
+
 abbrev pub AnswersOfAStep : Type 0
-AnswersOfAStep = (rom input : List ℕ) (w : World) → numberOf (stepOf rom input w .answer) ≤ 10
+AnswersOfAStep = (g : Given) (w : World) → isAmong (numberOf (stepOf g w .answer)) stepNumbers ≡ true
 
 abbrev pub AnswersOfARun : Type 0
-AnswersOfARun = (rom input : List ℕ) (budget : ℕ) (w : World) → numberOf (runOf rom input budget w .answer) ≤ 10
+AnswersOfARun = (g : Given) (budget : ℕ) (w : World) → isAmong (numberOf (runOf g budget w .answer)) stepNumbers ≡ true
 
 -- ---- the rows of the table of answers
-
--- the table of a step, in its order
-abbrev pub rowsOf : List ℕ → List ℕ → World → List Row
-rowsOf rom input w = tableFor (decodedAt rom (w .«data») (w .m)) rom (w .«data») input (length (w .output)) (w .m)
-
--- no row's condition holds
-abbrev pub NoneHolds : List Row → Type 0
-NoneHolds [] = Unit {0}
-NoneHolds (r ∷ rows) = (r .given ≡ false) × NoneHolds rows
 
 -- a is the answer of a row whose condition holds, and no earlier row's does
 pub record GivenBy (a : Answer) (rows : List Row) : Type 0 where
   pub earlier : List Row
+  pub name : String
   pub later : List Row
-  pub in-order : rows ≡ earlier ++ (row a true ∷ later)
+  pub in-order : rows ≡ earlier ++ (row name a true ∷ later)
   pub none-earlier : NoneHolds earlier
 
 -- "Given exactly when": a row's answer is given exactly when its condition holds and no earlier row's does, and 0 exactly when no row's does
-pub record RowGiven (rom input : List ℕ) (w : World) : Type 0 where
-  pub given-by : (a : Answer) → GivenBy a (rowsOf rom input w) → stepOf rom input w .answer ≡ a
-  pub only-by : (a : Answer) → isDone a ≡ false → stepOf rom input w .answer ≡ a → GivenBy a (rowsOf rom input w)
-  pub done-by : NoneHolds (rowsOf rom input w) → stepOf rom input w .answer ≡ Done
-  pub done-only : stepOf rom input w .answer ≡ Done → NoneHolds (rowsOf rom input w)
+pub record RowGiven (g : Given) (w : World) : Type 0 where
+  pub given-by : (a : Answer) → GivenBy a (rowsOf g w) → stepOf g w .answer ≡ a
+  pub only-by : (a : Answer) → isDone a ≡ false → stepOf g w .answer ≡ a → GivenBy a (rowsOf g w)
+  pub done-by : NoneHolds (rowsOf g w) → stepOf g w .answer ≡ Done
+  pub done-only : stepOf g w .answer ≡ Done → NoneHolds (rowsOf g w)
 
 -- ---- the order, where two conditions hold at once
 
 -- a world that passes checks 1 and 2, with an instruction that is built at PC
-pub record Meets (rom input : List ℕ) (w : World) (i : Instruction) : Type 0 where
+pub record Meets (g : Given) (w : World) (i : Instruction) : Type 0 where
   pub cells-in-range : inRange (w .m) ≡ true
-  pub slices-of-size : slicesFit (w .m) rom (w .«data») input (length (w .output)) ≡ true
+  pub slices-of-size : slicesFit (w .m) (g .rom) (w .«data») (g .input) (length (w .output)) ≡ true
   pub word-present : programPresent (w .m .cnf) (w .m .pc) ≡ true
-  pub word-is : decodedAt rom (w .«data») (w .m) ≡ Built i
+  pub word-is : decodedAt g (w .«data») (w .m) ≡ Built i
 
 -- "7, 5 for the second word": a branch after RPTK at the end of the ROM
 abbrev pub RepeatBeforeSecondWord : Type 0
-RepeatBeforeSecondWord = (rom input : List ℕ) (w : World) (i : Instruction) → Meets rom input w i
+RepeatBeforeSecondWord = (g : Given) (w : World) (i : Instruction) → Meets g w i
     → notRepeatable (w .m) i ≡ true → secondAbsent (w .m) i ≡ true
-    → numberOf (stepOf rom input w .answer) ≡ 7
+    → numberOf (stepOf g w .answer) ≡ 7
 
 -- "9, 8, 6": a wrong port, with an address that is absent
 abbrev pub PortBeforeData : Type 0
-PortBeforeData = (rom input : List ℕ) (w : World) (i : Instruction) → Meets rom input w i
+PortBeforeData = (g : Given) (w : World) (i : Instruction) → Meets g w i
     → notRepeatable (w .m) i ≡ false → secondAbsent (w .m) i ≡ false
     → wrongPort (traitsOf i .port) ≡ true → dataAbsent (traitsOf i) (addressOf (traitsOf i .operand) (w .m)) (w .m) ≡ true
-    → numberOf (stepOf rom input w .answer) ≡ 9
+    → numberOf (stepOf g w .answer) ≡ 9
 
 -- "5 for the first word, 3": of the table alone, since no word stands at an absent address
 abbrev pub PresenceBeforeEncoding : Type 0
-PresenceBeforeEncoding = (rom «data» input : List ℕ) (outputLength : ℕ) (m : Machine) → inRange m ≡ true → slicesFit m rom «data» input outputLength ≡ true
+PresenceBeforeEncoding = (g : Given) («data» : List ℕ) (outputLength : ℕ) (m : Machine) → inRange m ≡ true → slicesFit m (g .rom) «data» (g .input) outputLength ≡ true
     → programPresent (m .cnf) (m .pc) ≡ false
-    → numberOf (firstGiven (tableFor Nothing rom «data» input outputLength m)) ≡ 5
+    → numberOf (firstGiven (tableFor Nothing g «data» outputLength m)) ≡ 5
 
 -- ---- where a fetch window is
 
@@ -109,28 +112,23 @@ WindowPlaces = (cnf address : ℕ) (rom «data» : RefT (List ℕ)) → length (
 
 -- ---- runs
 
--- the world after k steps, refused or not
-unfoldable pub worldAfter : List ℕ → List ℕ → ℕ → World → World
-worldAfter rom input zero w = w
-worldAfter rom input (suc k) w = worldAfter rom input k (stepOf rom input w .world)
-
 -- the first k steps are done
-unfoldable pub AllDone : List ℕ → List ℕ → ℕ → World → Type 0
-AllDone rom input zero w = Unit {0}
-AllDone rom input (suc k) w = (isDone (stepOf rom input w .answer) ≡ true) × AllDone rom input k (stepOf rom input w .world)
+unfoldable pub AllDone : Given → ℕ → World → Type 0
+AllDone g zero w = Unit {0}
+AllDone g (suc k) w = (isDone (stepOf g w .answer) ≡ true) × AllDone g k (stepOf g w .world)
 
 -- "stops at the first refused step, and reports the steps done (the refused one not counted) and the last answer"
-pub record RunIs (rom input : List ℕ) (budget : ℕ) (w : World) : Type 0 where
+pub record RunIs (g : Given) (budget : ℕ) (w : World) : Type 0 where
   -- the refused step adds nothing to the run's world and count
-  pub refused-after : (k : ℕ) → k < budget → AllDone rom input k w → isDone (stepOf rom input (worldAfter rom input k w) .answer) ≡ false
-      → runOf rom input budget w
-      ≡ record { world = worldAfter rom input k w; steps = k; answer = stepOf rom input (worldAfter rom input k w) .answer }
-  pub all-done : AllDone rom input budget w
-      → runOf rom input budget w
+  pub refused-after : (k : ℕ) → k < budget → AllDone g k w → isDone (stepOf g (worldAfter g k w) .answer) ≡ false
+      → runOf g budget w
+      ≡ record { world = worldAfter g k w; steps = k; answer = stepOf g (worldAfter g k w) .answer }
+  pub all-done : AllDone g budget w
+      → runOf g budget w
       ≡ record {
-        world = worldAfter rom input budget w;
+        world = worldAfter g budget w;
         steps = budget;
-        answer = checksOf rom (worldAfter rom input budget w .«data») input (length (worldAfter rom input budget w .output)) (worldAfter rom input budget w .m);
+        answer = checksOf g (worldAfter g budget w .«data») (length (worldAfter g budget w .output)) (worldAfter g budget w .m);
       }
 
 -- a run after some steps
@@ -138,19 +136,19 @@ abbrev pub continued : ℕ → RunOutcome → RunOutcome
 continued steps r = record { world = r .world; steps = steps + r .steps; answer = r .answer }
 
 -- a run of a + b is the run of a and then of b, where the first is not refused; else it is the run of a
-pub record RunsAdd (rom input : List ℕ) (a b : ℕ) (w : World) : Type 0 where
-  pub first-done : isDone (runOf rom input a w .answer) ≡ true
-      → runOf rom input (a + b) w ≡ continued a (runOf rom input b (runOf rom input a w .world))
-  pub first-refused : isDone (runOf rom input a w .answer) ≡ false → runOf rom input (a + b) w ≡ runOf rom input a w
+pub record RunsAdd (g : Given) (a b : ℕ) (w : World) : Type 0 where
+  pub first-done : isDone (runOf g a w .answer) ≡ true
+      → runOf g (a + b) w ≡ continued a (runOf g b (runOf g a w .world))
+  pub first-refused : isDone (runOf g a w .answer) ≡ false → runOf g (a + b) w ≡ runOf g a w
 
 -- ---- a repeated instruction
 
 -- what the rule of an instruction makes of a world, and what it stores
-abbrev pub effectAt : List ℕ → List ℕ → World → Instruction → Effect
-effectAt rom input w i = effectOf (traitsOf i) i (secondWord i rom (w .«data») (w .m)) rom (w .«data») input (w .m)
+abbrev pub effectAt : Given → World → Instruction → Effect
+effectAt g w i = effectOf (traitsOf i) i (secondWord i g (w .«data») (w .m)) g (w .«data») (w .m)
 
-abbrev pub writeAt : List ℕ → List ℕ → World → Instruction → Write
-writeAt rom input w i = passedWrite (traitsOf i) i (secondWord i rom (w .«data») (w .m)) rom (w .«data») input (w .m)
+abbrev pub writeAt : Given → World → Instruction → Write
+writeAt g w i = passedWrite (traitsOf i) i (secondWord i g (w .«data») (w .m)) g (w .«data») (w .m)
 
 -- the world with another RPTC
 abbrev pub recounted : World → ℕ → World
@@ -161,20 +159,20 @@ abbrev pub workOf : World → World
 workOf w = record { m = withPc (withMid (withRptc (w .m) 0) 0) 0; «data» = w .«data»; output = w .output }
 
 -- a pass of a repeatable instruction
-pub record PassWorks (rom input : List ℕ) (w : World) (i : Instruction) : Type 0 where
+pub record PassWorks (g : Given) (w : World) (i : Instruction) : Type 0 where
   -- "If RPTC is above 0 .. RPTC falls by 1, MID becomes 1 and PC stays"; every other cell is what the rule makes of it
-  pub goes-on : (n : ℕ) → w .m .rptc ≡ suc n → stepOf rom input w .world .m ≡ withMid (withRptc (withPc (effectAt rom input w i .m) (w .m .pc)) n) 1
+  pub goes-on : (n : ℕ) → w .m .rptc ≡ suc n → stepOf g w .world .m ≡ withMid (withRptc (withPc (effectAt g w i .m) (w .m .pc)) n) 1
   -- "otherwise MID becomes 0 and PC moves past the instruction's words"
   pub ends : w .m .rptc ≡ 0
-      → stepOf rom input w .world .m ≡ withPc (withMid (withRptc (effectAt rom input w i .m) 0) 0) (wrappedSum (w .m .pc) (traitsOf i .words))
+      → stepOf g w .world .m ≡ withPc (withMid (withRptc (effectAt g w i .m) 0) 0) (wrappedSum (w .m .pc) (traitsOf i .words))
   -- the store is the rule's
-  pub stores-data : stepOf rom input w .world .«data» ≡ dataAfter (writeAt rom input w i) (w .«data»)
-  pub stores-output : stepOf rom input w .world .output ≡ outputAfter (writeAt rom input w i) (w .output)
+  pub stores-data : stepOf g w .world .«data» ≡ dataAfter (writeAt g w i) (w .«data»)
+  pub stores-output : stepOf g w .world .output ≡ outputAfter (writeAt g w i) (w .output)
   -- whatever RPTC is, the pass is done, and works the same: none only counts
-  pub any-count : (n : ℕ) → n ≤ 255 → stepOf rom input (recounted w n) .answer ≡ Done
-  pub same-work : (n : ℕ) → n ≤ 255 → workOf (stepOf rom input (recounted w n) .world) ≡ workOf (stepOf rom input w .world)
+  pub any-count : (n : ℕ) → n ≤ 255 → stepOf g (recounted w n) .answer ≡ Done
+  pub same-work : (n : ℕ) → n ≤ 255 → workOf (stepOf g (recounted w n) .world) ≡ workOf (stepOf g w .world)
 
 -- "a repeat that works in its first pass and only counts the rest" is ruled out
 abbrev pub EveryPassWorks : Type 0
-EveryPassWorks = (rom input : List ℕ) (w : World) (i : Instruction) → decodedAt rom (w .«data») (w .m) ≡ Built i → traitsOf i .repeatable ≡ true
-    → stepOf rom input w .answer ≡ Done → PassWorks rom input w i
+EveryPassWorks = (g : Given) (w : World) (i : Instruction) → decodedAt g (w .«data») (w .m) ≡ Built i → traitsOf i .repeatable ≡ true
+    → stepOf g w .answer ≡ Done → PassWorks g w i

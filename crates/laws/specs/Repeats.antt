@@ -54,14 +54,18 @@ use Rattle.pages.specs.Addressing.{pointed, modified, addressed, addressOf}
 use Rattle.pages.specs.declared.Words.{Words}
 use Rattle.pages.specs.Rules.{ruleOf}
 use Rattle.board.specs.Slices.{slicesFit}
-use Rattle.steps.specs.Refusals.{addressAbove, dataAbsent, tableAbsent, outputFull}
+use Rattle.board.specs.Given.{Given}
+use Rattle.steps.specs.Refusals.{dataAbsent, tableAbsent, outputFull, passRows, operandRows, restRows}
 use Rattle.steps.specs.Stores.{dataAfter, outputAfter}
 use Rattle.steps.specs.Pass.{wordsRead, effectOf, passedMachine, passedWrite, performed}
 use Rattle.steps.specs.World.{World}
-use Rattle.steps.specs.Table.{decodedAt, secondAddress, secondWord, notRepeatable, secondAbsent, tableFor}
-use Rattle.steps.specs.Step.{afterStore, stepOf}
-use Rattle.laws.specs.Laws.{rowsOf, NoneHolds, recounted, workOf, effectAt, writeAt, PassWorks, EveryPassWorks}
-use Rattle.laws.specs.Steps.{_and_, row-not, step-world, row-given}
+use Rattle.steps.specs.Table.{decodedAt, secondAddress, secondWord, notRepeatable, secondAbsent, tableFor, checkRows, fetchRows, encodingRows, instructionRows, repeatRows}
+use Rattle.steps.specs.Step.{afterStore, stepOf, rowsOf}
+use Rattle.steps.specs.Rows.{NoneHolds}
+use Rattle.steps.specs.RowLaws.{row-not}
+use Rattle.steps.specs.TableLaws.{step-world}
+use Rattle.laws.specs.Laws.{recounted, workOf, effectAt, writeAt, PassWorks, EveryPassWorks}
+use Rattle.laws.specs.Steps.{_and_, row-given, pass-none}
 
 -- the machine with another RPTC and another PC
 abbrev countedAt : Machine → ℕ → ℕ → Machine
@@ -200,26 +204,26 @@ address-counted Operand.Nothing m n pc = refl
 address-counted (Operand.At (Mode.Direct offset)) m n pc = refl
 address-counted (Operand.At (Mode.Indirect operand)) m n pc = refl
 
-words-counted : (t : Traits) (second : ℕ) (rom «data» input : List ℕ) (m : Machine) (n pc : ℕ) → wordsRead t second rom «data» input (countedAt m n pc) ≡ wordsRead t second rom «data» input m
+words-counted : (t : Traits) (second : ℕ) (g : Given) («data» : List ℕ) (m : Machine) (n pc : ℕ) → wordsRead t second g «data» (countedAt m n pc) ≡ wordsRead t second g «data» m
 unfolding wordsRead tableAddress
-words-counted t second rom «data» input m n pc = rw (address-counted (t .operand) m n pc)
+words-counted t second g «data» m n pc = rw (address-counted (t .operand) m n pc)
 
 -- ---- the pass
 
-module _ (i : Instruction) (h : traitsOf i .repeatable ≡ true) (second : ℕ) (rom «data» input : List ℕ) (m : Machine) where
-  effect-counted : (n pc : ℕ) → effectOf (traitsOf i) i second rom «data» input (countedAt m n pc) ≡ uncounted (effectOf (traitsOf i) i second rom «data» input m) n pc
+module _ (i : Instruction) (h : traitsOf i .repeatable ≡ true) (second : ℕ) (g : Given) («data» : List ℕ) (m : Machine) where
+  effect-counted : (n pc : ℕ) → effectOf (traitsOf i) i second g «data» (countedAt m n pc) ≡ uncounted (effectOf (traitsOf i) i second g «data» m) n pc
   unfolding effectOf
   effect-counted n pc =
-      rw (addressed-counted (traitsOf i .operand) m n pc, words-counted (traitsOf i) second rom «data» input m n pc)
-      (rule-counted i m (addressed (traitsOf i .operand) m) (wordsRead (traitsOf i) second rom «data» input m) n pc h)
+      rw (addressed-counted (traitsOf i .operand) m n pc, words-counted (traitsOf i) second g «data» m n pc)
+      (rule-counted i m (addressed (traitsOf i .operand) m) (wordsRead (traitsOf i) second g «data» m) n pc h)
 
   -- the machine after the pass, with RPTC n before it
-  passed-with : (n : ℕ) → passedMachine (traitsOf i) i second rom «data» input (countedAt m n (m .pc))
-      ≡ followed (countedAt (effectOf (traitsOf i) i second rom «data» input m .m) n (m .pc)) Jump.Past (traitsOf i .words) true
+  passed-with : (n : ℕ) → passedMachine (traitsOf i) i second g «data» (countedAt m n (m .pc))
+      ≡ followed (countedAt (effectOf (traitsOf i) i second g «data» m .m) n (m .pc)) Jump.Past (traitsOf i .words) true
   unfolding passedMachine
   passed-with n = rw (effect-counted n (m .pc), h)
 
-  written-with : (n : ℕ) → passedWrite (traitsOf i) i second rom «data» input (countedAt m n (m .pc)) ≡ passedWrite (traitsOf i) i second rom «data» input m
+  written-with : (n : ℕ) → passedWrite (traitsOf i) i second g «data» (countedAt m n (m .pc)) ≡ passedWrite (traitsOf i) i second g «data» m
   unfolding passedWrite
   written-with n = rw (effect-counted n (m .pc), address-counted (traitsOf i .operand) m n (m .pc))
 
@@ -250,18 +254,24 @@ never : (t : Bool) → t && false ≡ false
 never true = refl
 never false = refl
 
-module _ (rom input : List ℕ) (w : World) (i : Instruction) (d : decodedAt rom (w .«data») (w .m) ≡ Built i) (h : traitsOf i .repeatable ≡ true)
-    (e : stepOf rom input w .answer ≡ Done) (n : ℕ) (l : n ≤ 255) where
-  decoded-recounted : decodedAt rom (w .«data») (withRptc (w .m) n) ≡ Built i
+module _ (g : Given) (w : World) (i : Instruction) (d : decodedAt g (w .«data») (w .m) ≡ Built i) (h : traitsOf i .repeatable ≡ true)
+    (e : stepOf g w .answer ≡ Done) (n : ℕ) (l : n ≤ 255) where
+  decoded-recounted : decodedAt g (w .«data») (withRptc (w .m) n) ≡ Built i
   unfolding decodedAt
   decoded-recounted = d
 
-  none-recounted : NoneHolds (tableFor (Built i) rom (w .«data») input (length (w .output)) (w .m)) → NoneHolds (tableFor (Built i) rom (w .«data») input (length (w .output)) (withRptc (w .m) n))
-  unfolding tableFor slicesFit notRepeatable secondAbsent secondAddress secondWord addressAbove dataAbsent tableAbsent tableAddress outputFull
+  -- nothing that a pass asks looks at RPTC
+  pass-recounted : (second : ℕ)
+      → passRows (traitsOf i) (addressOf (traitsOf i .operand) (withRptc (w .m) n)) second (length (w .output)) (withRptc (w .m) n)
+      ≡ passRows (traitsOf i) (addressOf (traitsOf i .operand) (w .m)) second (length (w .output)) (w .m)
+  unfolding passRows operandRows restRows dataAbsent tableAbsent tableAddress outputFull
+  pass-recounted second = rw (address-counted (traitsOf i .operand) (w .m) n (w .m .pc))
+
+  none-recounted : NoneHolds (tableFor (Built i) g (w .«data») (length (w .output)) (w .m)) → NoneHolds (tableFor (Built i) g (w .«data») (length (w .output)) (withRptc (w .m) n))
+  unfolding tableFor checkRows fetchRows encodingRows instructionRows repeatRows slicesFit notRepeatable secondAbsent secondAddress secondWord
   none-recounted o =
-      let rows = tableFor (Built i) rom (w .«data») input (length (w .output)) (w .m) in
-      let r = ranged (w .m) (not-false _ (row-not rows 0 o)) in
-      let a = address-counted (traitsOf i .operand) (w .m) n (w .m .pc) in
+      let rows = tableFor (Built i) g (w .«data») (length (w .output)) (w .m) in
+      let r = ranged (w .m) (not-false _ (row-not rows "1" o)) in
       let fits : inRange (withRptc (w .m) n) ≡ true = in-range (withRptc (w .m) n) (record {
         arp = r .arp;
         arb = r .arb;
@@ -278,63 +288,58 @@ module _ (rom input : List ℕ) (w : World) (i : Instruction) (d : decodedAt rom
         output-cursor = r .output-cursor;
       }) in
       ap not fits
-      and row-not rows 1 o
-      and row-not rows 2 o
+      and row-not rows "2" o
+      and row-not rows "5 for the first word" o
       and refl
       and refl
       and rw h (never (ltb 0 n))
-      and row-not rows 6 o
-      and row-not rows 7 o
-      and rw a (row-not rows 8 o)
-      and rw a (row-not rows 9 o)
-      and row-not rows 10 o
-      and row-not rows 11 o
-      and tt
+      and row-not rows "5 for the second word" o
+      and rw (pass-recounted (secondWord i g (w .«data») (w .m))) (pass-none i g (w .«data») (length (w .output)) (w .m) o)
 
-  done-recounted : stepOf rom input (recounted w n) .answer ≡ Done
+  done-recounted : stepOf g (recounted w n) .answer ≡ Done
   done-recounted =
-      let o : NoneHolds (tableFor (Built i) rom (w .«data») input (length (w .output)) (w .m)) = rw d at (row-given rom input w .done-only e) in
-      row-given rom input (recounted w n) .done-by (rw decoded-recounted (none-recounted o))
+      let o : NoneHolds (tableFor (Built i) g (w .«data») (length (w .output)) (w .m)) = rw d at (row-given g w .done-only e) in
+      row-given g (recounted w n) .done-by (rw decoded-recounted (none-recounted o))
 
-  work-recounted : workOf (stepOf rom input (recounted w n) .world)
+  work-recounted : workOf (stepOf g (recounted w n) .world)
       ≡ record {
-        m = withPc (withMid (withRptc (effectAt rom input w i .m) 0) 0) 0;
-        «data» = dataAfter (writeAt rom input w i) (w .«data»);
-        output = outputAfter (writeAt rom input w i) (w .output);
+        m = withPc (withMid (withRptc (effectAt g w i .m) 0) 0) 0;
+        «data» = dataAfter (writeAt g w i) (w .«data»);
+        output = outputAfter (writeAt g w i) (w .output);
       }
   unfolding afterStore performed secondWord secondAddress
   work-recounted =
       rw (
-        step-world rom input (recounted w n) i decoded-recounted done-recounted,
-        passed-with i h (secondWord i rom (w .«data») (w .m)) rom (w .«data») input (w .m) n,
-        written-with i h (secondWord i rom (w .«data») (w .m)) rom (w .«data») input (w .m) n,
-        follows-work (effectAt rom input w i .m) n (w .m .pc) (traitsOf i .words),
+        step-world g (recounted w n) i decoded-recounted done-recounted,
+        passed-with i h (secondWord i g (w .«data») (w .m)) g (w .«data») (w .m) n,
+        written-with i h (secondWord i g (w .«data») (w .m)) g (w .«data») (w .m) n,
+        follows-work (effectAt g w i .m) n (w .m .pc) (traitsOf i .words),
       )
 
-module _ (rom input : List ℕ) (w : World) (i : Instruction) (d : decodedAt rom (w .«data») (w .m) ≡ Built i) (h : traitsOf i .repeatable ≡ true)
-    (e : stepOf rom input w .answer ≡ Done) where
+module _ (g : Given) (w : World) (i : Instruction) (d : decodedAt g (w .«data») (w .m) ≡ Built i) (h : traitsOf i .repeatable ≡ true)
+    (e : stepOf g w .answer ≡ Done) where
   -- the machine after the step, by the RPTC before it
   machine-after : (n : ℕ) → w .m .rptc ≡ n
-      → stepOf rom input w .world .m ≡ followed (countedAt (effectAt rom input w i .m) n (w .m .pc)) Jump.Past (traitsOf i .words) true
+      → stepOf g w .world .m ≡ followed (countedAt (effectAt g w i .m) n (w .m .pc)) Jump.Past (traitsOf i .words) true
   unfolding afterStore performed
   machine-after n f =
-      rw (← f, step-world rom input w i d e)
-      (passed-with i h (secondWord i rom (w .«data») (w .m)) rom (w .«data») input (w .m) (w .m .rptc))
+      rw (← f, step-world g w i d e)
+      (passed-with i h (secondWord i g (w .«data») (w .m)) g (w .«data») (w .m) (w .m .rptc))
 
   in-bounds : w .m .rptc ≤ 255
-  unfolding tableFor
-  in-bounds = ranged (w .m) (not-false _ (row-not (rowsOf rom input w) 0 (row-given rom input w .done-only e))) .rptc
+  unfolding tableFor checkRows
+  in-bounds = ranged (w .m) (not-false _ (row-not (rowsOf g w) "1" (row-given g w .done-only e))) .rptc
 
-  pass-works : PassWorks rom input w i
+  pass-works : PassWorks g w i
   unfolding afterStore performed
   pass-works = record {
-    goes-on = λ n f. machine-after (suc n) f ∙ follows-on (effectAt rom input w i .m) n (w .m .pc) (traitsOf i .words);
-    ends = λ f. machine-after 0 f ∙ follows-last (effectAt rom input w i .m) (w .m .pc) (traitsOf i .words);
-    stores-data = rw (step-world rom input w i d e);
-    stores-output = rw (step-world rom input w i d e);
-    any-count = λ n l. done-recounted rom input w i d h e n l;
-    same-work = λ n l. work-recounted rom input w i d h e n l ∙ sym (work-recounted rom input w i d h e (w .m .rptc) in-bounds);
+    goes-on = λ n f. machine-after (suc n) f ∙ follows-on (effectAt g w i .m) n (w .m .pc) (traitsOf i .words);
+    ends = λ f. machine-after 0 f ∙ follows-last (effectAt g w i .m) (w .m .pc) (traitsOf i .words);
+    stores-data = rw (step-world g w i d e);
+    stores-output = rw (step-world g w i d e);
+    any-count = λ n l. done-recounted g w i d h e n l;
+    same-work = λ n l. work-recounted g w i d h e n l ∙ sym (work-recounted g w i d h e (w .m .rptc) in-bounds);
   }
 
 pub every-pass-works : EveryPassWorks
-every-pass-works rom input w i d h e = pass-works rom input w i d h e
+every-pass-works g w i d h e = pass-works g w i d h e

@@ -2,132 +2,85 @@
 use mathlib.Core.Path.{_≡_, refl, sym, _∙_, ap, ap₂}
 use mathlib.Core.Bool.{Bool, true, false, cond, false≢true}
 use mathlib.Core.List.{List, [], _∷_, _++_}
-use Prim.Native.Nat.{ℕ, zero, suc, _+_, _≤_}
-use native.Mathlib.Omega.{arith}
+use Prim.Native.Nat.{ℕ, _+_}
+use Prim.Native.String.{String}
 use lib.ListN.{length}
 use Rattle.machine.specs.declared.Machine.{Machine}
 use Rattle.answers.specs.declared.Answer.{Answer}
-use Rattle.answers.specs.declared.Answer.the-variants.{Done}
 use Rattle.answers.specs.Numbers.{numberOf, isDone}
-use Rattle.answers.specs.NumberLaws.{done-is}
 use Rattle.instructions.specs.declared.Instruction.{Instruction}
 use Rattle.instructions.specs.declared.Decoded.{Decoded}
 use Rattle.instructions.specs.declared.Decoded.the-variants.{Built, Unbuilt, Nothing}
 use Rattle.pages.specs.Traits.{traitsOf}
-use Rattle.steps.specs.declared.Plan.{Plan}
-use Rattle.steps.specs.Rows.{Row, row, firstGiven}
+use Rattle.pages.specs.Addressing.{addressOf}
+use Rattle.steps.specs.Rows.{Row, row, firstGiven, NoneHolds}
 use Rattle.steps.specs.Stores.{dataAfter, outputAfter}
-use Rattle.steps.specs.Pass.{performed, refused}
 use Rattle.steps.specs.World.{World}
-use Rattle.steps.specs.Table.{decodedAt, secondWord, tableFor, refusalOf, checksOf}
-use Rattle.steps.specs.Step.{pagePlan, planOf, afterStore, stepOf}
-use Rattle.laws.specs.Laws.{RefusedUnchanged, AnswersOfAStep, rowsOf, NoneHolds, GivenBy, RowGiven, Meets, RepeatBeforeSecondWord, PortBeforeData, PresenceBeforeEncoding}
+use Rattle.steps.specs.Table.{decodedAt, secondWord, tableFor, checksOf, checkRows, fetchRows, encodingRows, instructionRows, repeatRows}
+use Rattle.steps.specs.Step.{pagePlan, planOf, afterStore, stepOf, rowsOf}
+use Rattle.steps.specs.RowLaws.{every, every-first, none-done, none-from, none-append, plan-by-first}
+use Rattle.steps.specs.Refusals.{passRows, operandRows, restRows}
+use Rattle.steps.specs.TableLaws.{step-answer, rows-refuse}
+use Rattle.laws.specs.Laws.{RefusedUnchanged, AnswersOfAStep, GivenBy, RowGiven, RepeatBeforeSecondWord, PortBeforeData, PresenceBeforeEncoding, isAmong, stepNumbers}
+use Rattle.board.specs.Given.{Given}
 
 -- facts one after another
 infixr 4 _and_
 abbrev pub _and_ : {A B : Type 0} → A → B → A × B
 a and b = (a, b)
 
-page-done : (d : Decoded) (rom «data» input : List ℕ) (m : Machine) → pagePlan d rom «data» input m .answer ≡ Done
-unfolding pagePlan performed
-page-done (Built i) rom «data» input m = refl
-page-done Unbuilt rom «data» input m = refl
-page-done Nothing rom «data» input m = refl
-
--- a plan by its refusal
-chosen-answer : (a : Answer) (p : Plan) (m : Machine) → p .answer ≡ Done → cond (isDone a) p (refused m a) .answer ≡ a
-chosen-answer a p m e = by (isDone a) refl
-  where
-    by : (t : Bool) → isDone a ≡ t → cond t p (refused m a) .answer ≡ a
-    by true h = e ∙ sym (done-is a h)
-    by false h = refl
-
--- the answer of a step is that of the table
-pub step-answer : (rom input : List ℕ) (w : World) → stepOf rom input w .answer ≡ firstGiven (rowsOf rom input w)
-unfolding stepOf planOf refusalOf
-step-answer rom input w =
-    chosen-answer (firstGiven (rowsOf rom input w)) (pagePlan (decodedAt rom (w .«data») (w .m)) rom (w .«data») input (w .m)) (w .m)
-    (page-done (decodedAt rom (w .«data») (w .m)) rom (w .«data») input (w .m))
-
 pub refused-unchanged : RefusedUnchanged
-unfolding stepOf planOf refusalOf afterStore dataAfter outputAfter
-refused-unchanged rom input w h =
-    let e : isDone (firstGiven (rowsOf rom input w)) ≡ false = ap isDone (sym (step-answer rom input w)) ∙ h in
-    rw e
-
--- a step that is done is what the page's rule makes of the world
-pub step-world : (rom input : List ℕ) (w : World) (i : Instruction) → decodedAt rom (w .«data») (w .m) ≡ Built i → stepOf rom input w .answer ≡ Done
-    → stepOf rom input w .world ≡ afterStore (performed (traitsOf i) i (secondWord i rom (w .«data») (w .m)) rom (w .«data») input (w .m)) w
-unfolding stepOf planOf refusalOf pagePlan
-step-world rom input w i d e =
-    let f : isDone (firstGiven (rowsOf rom input w)) ≡ true = ap isDone (sym (step-answer rom input w) ∙ e) in
-    rw f (ap (λ (x : Decoded). afterStore (pagePlan x rom (w .«data») input (w .m)) w) d)
+unfolding stepOf planOf afterStore dataAfter outputAfter
+refused-unchanged g w h =
+    let e : isDone (firstGiven (rowsOf g w)) ≡ false = ap isDone (sym (step-answer g w)) ∙ h in
+    rw (plan-by-first (w .m) (pagePlan (decodedAt g (w .«data») (w .m)) g (w .«data») (w .m)) (rowsOf g w) (rows-refuse g w), e)
 
 -- ---- numbers
 
-one-more : (a : Answer) (given : Bool) (rows : List Row) → numberOf a ≤ 10 → numberOf (firstGiven rows) ≤ 10 → numberOf (firstGiven (row a given ∷ rows)) ≤ 10
-unfolding firstGiven
-one-more a true rows h r = h
-one-more a false rows h r = r
+numbered : Row → Bool
+numbered r = isAmong (numberOf (r .answer)) stepNumbers
 
-none-most : numberOf (firstGiven []) ≤ 10
-unfolding firstGiven
-none-most = omega arith
+first-numbered : (rows : List Row) → every numbered rows ≡ true → isAmong (numberOf (firstGiven rows)) stepNumbers ≡ true
+unfolding firstGiven numbered isAmong stepNumbers
+first-numbered [] h = refl
+first-numbered (r ∷ rows) h =
+    let both = every-first numbered r rows h in
+    by (r .given) (both .0) (first-numbered rows (both .1))
+  where
+    by : (t : Bool) → numbered r ≡ true → isAmong (numberOf (firstGiven rows)) stepNumbers ≡ true → isAmong (numberOf (cond t (r .answer) (firstGiven rows))) stepNumbers ≡ true
+    by true e next = e
+    by false e next = next
 
-table-most : (d : Decoded) (rom «data» input : List ℕ) (outputLength : ℕ) (m : Machine) → numberOf (firstGiven (tableFor d rom «data» input outputLength m)) ≤ 10
-unfolding tableFor
-table-most d rom «data» input outputLength m =
-    one-more _ _ _ (omega arith)
-    (one-more _ _ _ (omega arith)
-    (one-more _ _ _ (omega arith)
-    (one-more _ _ _ (omega arith)
-    (one-more _ _ _ (omega arith)
-    (one-more _ _ _ (omega arith)
-    (one-more _ _ _ (omega arith)
-    (one-more _ _ _ (omega arith)
-    (one-more _ _ _ (omega arith)
-    (one-more _ _ _ (omega arith)
-    (one-more _ _ _ (omega arith)
-    (one-more _ _ _ (omega arith) none-most)))))))))))
+table-numbered : (d : Decoded) (g : Given) («data» : List ℕ) (outputLength : ℕ) (m : Machine) → every numbered (tableFor d g «data» outputLength m) ≡ true
+unfolding numbered isAmong stepNumbers tableFor checkRows fetchRows encodingRows instructionRows repeatRows passRows operandRows restRows
+table-numbered (Built i) g «data» outputLength m = refl
+table-numbered Unbuilt g «data» outputLength m = refl
+table-numbered Nothing g «data» outputLength m = refl
 
 pub answers-of-a-step : AnswersOfAStep
-answers-of-a-step rom input w = rw (step-answer rom input w) (table-most (decodedAt rom (w .«data») (w .m)) rom (w .«data») input (length (w .output)) (w .m))
+answers-of-a-step g w =
+    rw (step-answer g w) (first-numbered (rowsOf g w) (table-numbered (decodedAt g (w .«data») (w .m)) g (w .«data») (length (w .output)) (w .m)))
 
-pub checks-most : (rom «data» input : List ℕ) (outputLength : ℕ) (m : Machine) → numberOf (checksOf rom «data» input outputLength m) ≤ 10
-unfolding checksOf
-checks-most rom «data» input outputLength m = one-more _ _ _ (omega arith) (one-more _ _ _ (omega arith) none-most)
+pub answers-of-checks : (g : Given) («data» : List ℕ) (outputLength : ℕ) (m : Machine) → isAmong (numberOf (checksOf g «data» outputLength m)) stepNumbers ≡ true
+unfolding checksOf checkRows numbered isAmong stepNumbers
+answers-of-checks g «data» outputLength m = first-numbered (checkRows g «data» outputLength m) refl
 
 -- ---- rows
 
-first-is : (a : Answer) (before after : List Row) → NoneHolds before → firstGiven (before ++ (row a true ∷ after)) ≡ a
+-- the rows of the pass, of a table in which none holds
+pub pass-none : (i : Instruction) (g : Given) («data» : List ℕ) (outputLength : ℕ) (m : Machine) → NoneHolds (tableFor (Built i) g «data» outputLength m)
+    → NoneHolds (passRows (traitsOf i) (addressOf (traitsOf i .operand) m) (secondWord i g «data» m) outputLength m)
+unfolding tableFor instructionRows
+pass-none i g «data» outputLength m n =
+    let fetched = none-append (checkRows g «data» outputLength m) _ n .1 in
+    let decoded = none-append (fetchRows m) _ fetched .1 in
+    let instruction = none-append (encodingRows (Built i)) _ decoded .1 in
+    none-append (repeatRows i m) _ instruction .1
+
+first-is : (a : Answer) (name : String) (before after : List Row) → NoneHolds before → firstGiven (before ++ (row name a true ∷ after)) ≡ a
 unfolding firstGiven
-first-is a [] after n = refl
-first-is a (r ∷ before) after n = rw (n .0) (first-is a before after (n .1))
-
-none-done : (rows : List Row) → NoneHolds rows → firstGiven rows ≡ Done
-unfolding firstGiven
-none-done [] n = refl
-none-done (r ∷ rows) n = rw (n .0) (none-done rows (n .1))
-
--- the condition of the row k of a table, counted from 0
-abbrev pub givenAt : List Row → ℕ → Bool
-givenAt [] k = false
-givenAt (r ∷ rows) zero = r .given
-givenAt (r ∷ rows) (suc k) = givenAt rows k
-
-pub row-not : (rows : List Row) (k : ℕ) → NoneHolds rows → givenAt rows k ≡ false
-row-not [] k n = refl
-row-not (r ∷ rows) zero n = n .0
-row-not (r ∷ rows) (suc k) n = row-not rows k (n .1)
-
--- every row of a table is a refusal
-abbrev Refusals : List Row → Type 0
-Refusals [] = Unit {0}
-Refusals (r ∷ rows) = (isDone (r .answer) ≡ false) × Refusals rows
-
-table-refuses : (d : Decoded) (rom «data» input : List ℕ) (outputLength : ℕ) (m : Machine) → Refusals (tableFor d rom «data» input outputLength m)
-unfolding tableFor
-table-refuses d rom «data» input outputLength m = refl and refl and refl and refl and refl and refl and refl and refl and refl and refl and refl and refl and tt
+first-is a name [] after n = refl
+first-is a name (r ∷ before) after n = rw (n .0) (first-is a name before after (n .1))
 
 first-from : (rows : List Row) (a : Answer) → isDone a ≡ false → firstGiven rows ≡ a → GivenBy a rows
 unfolding firstGiven
@@ -135,40 +88,31 @@ first-from [] a h e = absurd (false≢true (sym h ∙ sym (ap isDone e)))
 first-from (r ∷ rows) a h e = by (r .given) refl (first-from rows a h) e
   where
     by : (t : Bool) → r .given ≡ t → (firstGiven rows ≡ a → GivenBy a rows) → cond t (r .answer) (firstGiven rows) ≡ a → GivenBy a (r ∷ rows)
-    by true g next e = record { earlier = []; later = rows; in-order = ap (λ (x : Row). x ∷ rows) (ap₂ row e g); none-earlier = tt }
+    by true g next e = record { earlier = []; name = r .name; later = rows; in-order = ap (λ (x : Row). x ∷ rows) (ap₂ (row (r .name)) e g); none-earlier = tt }
     by false g next e =
         let f = next e in
-        record { earlier = r ∷ f .earlier; later = f .later; in-order = ap (λ (l : List Row). r ∷ l) (f .in-order); none-earlier = (g, f .none-earlier) }
+        record { earlier = r ∷ f .earlier; name = f .name; later = f .later; in-order = ap (λ (l : List Row). r ∷ l) (f .in-order); none-earlier = (g, f .none-earlier) }
 
-none-from : (rows : List Row) → Refusals rows → firstGiven rows ≡ Done → NoneHolds rows
-unfolding firstGiven
-none-from [] s e = tt
-none-from (r ∷ rows) s e = by (r .given) refl (none-from rows (s .1)) e
-  where
-    by : (t : Bool) → r .given ≡ t → (firstGiven rows ≡ Done → NoneHolds rows) → cond t (r .answer) (firstGiven rows) ≡ Done → NoneHolds (r ∷ rows)
-    by true g next e = absurd (false≢true (sym (s .0) ∙ ap isDone e))
-    by false g next e = (g, next e)
-
-pub row-given : (rom input : List ℕ) (w : World) → RowGiven rom input w
-row-given rom input w = record {
-  given-by = λ a g. step-answer rom input w ∙ (ap firstGiven (g .in-order) ∙ first-is a (g .earlier) (g .later) (g .none-earlier));
-  only-by = λ a h e. first-from (rowsOf rom input w) a h (sym (step-answer rom input w) ∙ e);
-  done-by = λ n. step-answer rom input w ∙ none-done (rowsOf rom input w) n;
-  done-only = λ e. none-from (rowsOf rom input w) (table-refuses (decodedAt rom (w .«data») (w .m)) rom (w .«data») input (length (w .output)) (w .m)) (sym (step-answer rom input w) ∙ e);
+pub row-given : (g : Given) (w : World) → RowGiven g w
+row-given g w = record {
+  given-by = λ a b. step-answer g w ∙ (ap firstGiven (b .in-order) ∙ first-is a (b .name) (b .earlier) (b .later) (b .none-earlier));
+  only-by = λ a h e. first-from (rowsOf g w) a h (sym (step-answer g w) ∙ e);
+  done-by = λ n. step-answer g w ∙ none-done (rowsOf g w) n;
+  done-only = λ e. none-from (rowsOf g w) (rows-refuse g w) (ap isDone (sym (step-answer g w) ∙ e));
 }
 
 -- ---- the order, where two conditions hold at once
 
 pub presence-before-encoding : PresenceBeforeEncoding
-unfolding firstGiven tableFor
-presence-before-encoding rom «data» input outputLength m r s p = rw (r, s, p)
+unfolding firstGiven tableFor checkRows fetchRows encodingRows instructionRows repeatRows passRows operandRows
+presence-before-encoding g «data» outputLength m r s p = rw (r, s, p)
 
 pub repeat-before-second-word : RepeatBeforeSecondWord
-unfolding firstGiven tableFor
-repeat-before-second-word rom input w i s repeated absent =
-    rw (step-answer rom input w, s .word-is, s .cells-in-range, s .slices-of-size, s .word-present, repeated)
+unfolding firstGiven tableFor checkRows fetchRows encodingRows instructionRows repeatRows passRows operandRows
+repeat-before-second-word g w i s repeated absent =
+    rw (step-answer g w, s .word-is, s .cells-in-range, s .slices-of-size, s .word-present, repeated)
 
 pub port-before-data : PortBeforeData
-unfolding firstGiven tableFor
-port-before-data rom input w i s repeats present wrong absent =
-    rw (step-answer rom input w, s .word-is, s .cells-in-range, s .slices-of-size, s .word-present, repeats, present, wrong)
+unfolding firstGiven tableFor checkRows fetchRows encodingRows instructionRows repeatRows passRows operandRows
+port-before-data g w i s repeats present wrong absent =
+    rw (step-answer g w, s .word-is, s .cells-in-range, s .slices-of-size, s .word-present, repeats, present, wrong)

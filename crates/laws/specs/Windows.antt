@@ -1,17 +1,16 @@
 -- Where a fetch window is: proofs.
 use mathlib.Core.Path.{_≡_, ap}
-use mathlib.Core.Bool.{true, false}
 use mathlib.Core.List.{List}
 use Prim.Native.Nat.{ℕ, _+_, _*_, _-_, _<_, min}
 use native.Mathlib.Omega.{arith}
 use lib.ListN.{length}
 use borrow.Author.Tests.{le-ltb}
 use denote.Ref.{RefT, ptr, now}
-use Rattle.board.specs.Regions.{inRom, inProgramB0}
+use Rattle.board.specs.Regions.{inRom}
 use Rattle.board.specs.RegionLaws.{rom-below, program-b0}
 use Rattle.board.specs.Slices.{partStart}
 use Rattle.board.specs.Windows.{windowStart}
-use Rattle.laws.specs.Laws.{WindowPlace, WindowPlaces}
+use Rattle.laws.specs.Laws.{WindowPlaces}
 
 -- a part that begins in the slice
 begins : (from to : ℕ) (words : RefT (List ℕ)) → from < to → from < length (now words) → partStart from to words ≡ (ptr words .0, ptr words .1 + 2 * from)

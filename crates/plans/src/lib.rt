@@ -23,6 +23,7 @@ ghost use Rattle.pages.specs.Rules.{ruleOf};
 ghost use Rattle.pages.specs.TransfersRule.{transfersRule};
 ghost use Rattle.board.specs.Slices.{portSpent};
 ghost use Rattle.board.specs.Windows.{programWord};
+ghost use Rattle.board.specs.Given.{given};
 ghost use Rattle.steps.specs.Pass.{readWord, wordsRead, performed, passPlan};
 ghost use Rattle.plans.specs.PassWords.{memoryWords, withPort};
 
@@ -68,7 +69,7 @@ fn words_read<'a>(
     m: Machine,
 ) -> MemoryWords
     requires { ⌜ address ≡ addressOf (t .operand) m ⌝ }
-    ensures { λ r. ⌜ r ≡ memoryWords (wordsRead t second (now (rom .entry)) (now («data» .entry)) [] m) ⌝ }
+    ensures { λ r. ⌜ r ≡ memoryWords (wordsRead t second (given (now (rom .entry)) []) (now («data» .entry)) m) ⌝ }
 {
     let access = t.access;
     let word = read_word(access, data, address);
@@ -128,7 +129,7 @@ fn perform<'a>(
     m: Machine,
 ) -> Plan
     requires { ⌜ address ≡ addressOf (t .operand) m ⌝ }
-    ensures { λ r. ⌜ r ≡ performed t i second (now (rom .entry)) (now («data» .entry)) (now (input .entry)) m ⌝ }
+    ensures { λ r. ⌜ r ≡ performed t i second (given (now (rom .entry)) (now (input .entry))) (now («data» .entry)) m ⌝ }
 {
     let operand = t.operand;
     let words = words_read(t, address, second, rom, data, m);
@@ -156,7 +157,7 @@ pub fn plan_pass<'a>(
     output_length: usize,
     m: Machine,
 ) -> Plan
-    ensures { λ r. ⌜ r ≡ passPlan t i second (now (rom .entry)) (now («data» .entry)) (now (input .entry)) «output_length» m ⌝ }
+    ensures { λ r. ⌜ r ≡ passPlan t i second (given (now (rom .entry)) (now (input .entry))) (now («data» .entry)) «output_length» m ⌝ }
 {
     let operand = t.operand;
     let address = address_of(m, operand);

@@ -16,6 +16,7 @@ use Rattle.instructions.specs.Decode.{decodeOf}
 use Rattle.instructions.specs.Every.{both-left, both-right}
 use Rattle.machine.specs.declared.Machine.{Machine}
 use Rattle.board.specs.Windows.{programWord}
+use Rattle.board.specs.Given.{Given}
 use Rattle.steps.specs.Table.{decodedAt, isUnbuilt}
 use Rattle.laws.specs.Steps.{_and_}
 use Rattle.ranges.specs.Fields.{NextFits, IndirectFits, AddressFits, DecodedFits}
@@ -210,6 +211,6 @@ pub decoded-fields : (w : ℕ) → DecodedFits (decodeOf w)
 unfolding decodeOf
 decoded-fields w = first-fits pages w pages-fit
 
-pub fields-at : (rom «data» : List ℕ) (m : Machine) → DecodedFits (decodedAt rom «data» m)
+pub fields-at : (g : Given) («data» : List ℕ) (m : Machine) → DecodedFits (decodedAt g «data» m)
 unfolding decodedAt
-fields-at rom «data» m = decoded-fields (programWord (m .cnf) (m .pc) rom «data»)
+fields-at g «data» m = decoded-fields (programWord (m .cnf) (m .pc) (g .rom) «data»)

@@ -39,6 +39,7 @@ use Rattle.pages.specs.MultiplierPages.{tableAddress}
 use Rattle.board.specs.Regions.{inRom, inProgramB0}
 use Rattle.board.specs.Slices.{portSpent}
 use Rattle.board.specs.Windows.{windowOf, programWord}
+use Rattle.board.specs.Given.{Given}
 use Rattle.steps.specs.Pass.{readWord, wordsRead}
 use Rattle.steps.specs.Table.{secondAddress, secondWord}
 use Rattle.ranges.specs.Ranges.{WordsFit}
@@ -219,17 +220,17 @@ read-lt Access.None l a f = omega arith
 read-lt Access.Reads l a f = word-at l a f
 read-lt Access.Writes l a f = omega arith
 
-pub second-lt : (x : Instruction) (rom «data» : List ℕ) (m : Machine) → WordsFit rom → WordsFit «data» → secondWord x rom «data» m < 2 ^ 16
+pub second-lt : (x : Instruction) (g : Given) («data» : List ℕ) (m : Machine) → WordsFit (g .rom) → WordsFit «data» → secondWord x g «data» m < 2 ^ 16
 unfolding secondWord
-second-lt x rom «data» m f g = or-none (eqb (traitsOf x .words) 2) _ (program-word-lt (m .cnf) (secondAddress m) rom «data» f g)
+second-lt x g «data» m f d = or-none (eqb (traitsOf x .words) 2) _ (program-word-lt (m .cnf) (secondAddress m) (g .rom) «data» f d)
 
-pub words-read : (t : Traits) (second : ℕ) (rom «data» input : List ℕ) (m : Machine) → second < 2 ^ 16 → WordsFit rom → WordsFit «data» → WordsFit input
-    → WordsRead (length input) (addressed (t .operand) m) (wordsRead t second rom «data» input m)
+pub words-read : (t : Traits) (second : ℕ) (g : Given) («data» : List ℕ) (m : Machine) → second < 2 ^ 16 → WordsFit (g .rom) → WordsFit «data» → WordsFit (g .input)
+    → WordsRead (length (g .input)) (addressed (t .operand) m) (wordsRead t second g «data» m)
 unfolding wordsRead portSpent
-words-read t second rom «data» input m h f g k = record {
-  operand = read-lt (t .access) «data» (addressOf (t .operand) m) g;
+words-read t second g «data» m h f d k = record {
+  operand = read-lt (t .access) «data» (addressOf (t .operand) m) d;
   second = h;
-  table = or-none (t .table) _ (program-word-lt (m .cnf) (tableAddress m second) rom «data» f g);
-  next = word-at input (m .«input_cursor») k;
+  table = or-none (t .table) _ (program-word-lt (m .cnf) (tableAddress m second) (g .rom) «data» f d);
+  next = word-at (g .input) (m .«input_cursor») k;
   not-dry = λ e. rw (addressed-cursors (t .operand) m .0) (leb-false _ _ e);
 }

@@ -10,6 +10,7 @@ use Rattle.machine.specs.Range.{inRange}
 use Rattle.answers.specs.declared.Answer.the-variants.{Done}
 use Rattle.answers.specs.Numbers.{numberOf}
 use Rattle.board.specs.Slices.{slicesFit}
+use Rattle.board.specs.Given.{Given}
 use Rattle.steps.specs.World.{World}
 use Rattle.steps.specs.Step.{stepOf, runOf}
 use Rattle.laws.specs.Laws.{AllDone}
@@ -32,32 +33,32 @@ pub record WordSized (m : Machine) : Type 0 where
   pub stack-count : length (m .stack .words) ≡ 8
 
 -- checks 1 and 2 are passed, and every word is within its width
-pub record WorldInRange (rom input : List ℕ) (w : World) : Type 0 where
+pub record WorldInRange (g : Given) (w : World) : Type 0 where
   pub in-range : inRange (w .m) ≡ true
-  pub slices-fit : slicesFit (w .m) rom (w .«data») input (length (w .output)) ≡ true
+  pub slices-fit : slicesFit (w .m) (g .rom) (w .«data») (g .input) (length (w .output)) ≡ true
   pub sized : WordSized (w .m)
-  pub rom-words : WordsFit rom
-  pub input-words : WordsFit input
+  pub rom-words : WordsFit (g .rom)
+  pub input-words : WordsFit (g .input)
   pub data-words : WordsFit (w .«data»)
   pub output-words : WordsFit (w .output)
 
 -- the machine after reset is so, with lent slices that fit
 abbrev pub StartInRange : Type 0
-StartInRange = (rom «data» input output : List ℕ) → length rom ≡ 4096 → length «data» ≡ 4096 → length input ≤ 1024 → length output ≤ 1024
-    → WordsFit rom → WordsFit «data» → WordsFit input → WordsFit output
-    → WorldInRange rom input (record { m = resetMachine; «data» = «data»; output = output })
+StartInRange = (g : Given) («data» output : List ℕ) → length (g .rom) ≡ 4096 → length «data» ≡ 4096 → length (g .input) ≤ 1024 → length output ≤ 1024
+    → WordsFit (g .rom) → WordsFit «data» → WordsFit (g .input) → WordsFit output
+    → WorldInRange g (record { m = resetMachine; «data» = «data»; output = output })
 
 -- a step keeps the world in range
 abbrev pub StepInRange : Type 0
-StepInRange = (rom input : List ℕ) (w : World) → WorldInRange rom input w → WorldInRange rom input (stepOf rom input w .world)
+StepInRange = (g : Given) (w : World) → WorldInRange g w → WorldInRange g (stepOf g w .world)
 
 -- and a run, which so never meets 1 or 2 on the way
-pub record RunInRange (rom input : List ℕ) (budget : ℕ) (w : World) : Type 0 where
-  pub world-in-range : WorldInRange rom input (runOf rom input budget w .world)
-  pub never-1 : numberOf (runOf rom input budget w .answer) ≡ 1 → ⊥
-  pub never-2 : numberOf (runOf rom input budget w .answer) ≡ 2 → ⊥
+pub record RunInRange (g : Given) (budget : ℕ) (w : World) : Type 0 where
+  pub world-in-range : WorldInRange g (runOf g budget w .world)
+  pub never-1 : numberOf (runOf g budget w .answer) ≡ 1 → ⊥
+  pub never-2 : numberOf (runOf g budget w .answer) ≡ 2 → ⊥
   -- where no step was refused the last answer is 0
-  pub done-answer : AllDone rom input budget w → runOf rom input budget w .answer ≡ Done
+  pub done-answer : AllDone g budget w → runOf g budget w .answer ≡ Done
 
 abbrev pub RunsInRange : Type 0
-RunsInRange = (rom input : List ℕ) (budget : ℕ) (w : World) → WorldInRange rom input w → RunInRange rom input budget w
+RunsInRange = (g : Given) (budget : ℕ) (w : World) → WorldInRange g w → RunInRange g budget w

@@ -26,17 +26,19 @@ use Rattle.pages.specs.Addressing.{addressOf}
 use Rattle.board.specs.Regions.{moveAllowed}
 use Rattle.board.specs.Slices.{memoriesFit, portFits, portSpent, slicesFit}
 use Rattle.board.specs.SliceLaws.{slices-fit}
+use Rattle.board.specs.Given.{Given}
 use Rattle.steps.specs.declared.Write.{Write}
 use Rattle.steps.specs.declared.Write.the-variants as Write
-use Rattle.steps.specs.Rows.{Row}
-use Rattle.steps.specs.Refusals.{sends, outputFull}
+use Rattle.steps.specs.Rows.{Row, NoneHolds}
+use Rattle.steps.specs.Refusals.{sends, outputFull, passRows, operandRows, restRows}
 use Rattle.steps.specs.Stores.{writeOf, dataAfter, outputAfter}
 use Rattle.steps.specs.Pass.{wordsRead, effectOf, passedMachine, passedWrite, performed}
 use Rattle.steps.specs.World.{World}
-use Rattle.steps.specs.Table.{decodedAt, secondWord, tableFor}
+use Rattle.steps.specs.Table.{decodedAt, secondWord, tableFor, checkRows, fetchRows, encodingRows, instructionRows, repeatRows}
 use Rattle.steps.specs.Step.{afterStore, stepOf}
-use Rattle.laws.specs.Laws.{NoneHolds}
-use Rattle.laws.specs.Steps.{_and_, row-not, step-world, refused-unchanged, row-given}
+use Rattle.steps.specs.RowLaws.{row-not}
+use Rattle.steps.specs.TableLaws.{step-world}
+use Rattle.laws.specs.Steps.{_and_, refused-unchanged, row-given}
 use Rattle.laws.specs.Runs.{by-first}
 use Rattle.ranges.specs.Ranges.{WordsFit, WordSized, WorldInRange, StepInRange}
 use Rattle.ranges.specs.Fields.{FieldsFit, DecodedFits}
@@ -48,11 +50,11 @@ use Rattle.ranges.specs.Operands.{operand-fits, addressed-keeps, address
 
 -- ---- the world's cells, and back
 
-module _ (rom input : List ℕ) (w : World) where
-  cells-fit : WorldInRange rom input w → Fits (length input) (length (w .output)) (w .m)
+module _ (g : Given) (w : World) where
+  cells-fit : WorldInRange g w → Fits (length (g .input)) (length (w .output)) (w .m)
   cells-fit k =
       let r = ranged (w .m) (k .in-range) in
-      let s = slices-fit (w .m) rom (w .«data») input (length (w .output)) (k .slices-fit) in
+      let s = slices-fit (w .m) (g .rom) (w .«data») (g .input) (length (w .output)) (k .slices-fit) in
       let z = k .sized in
       record {
         below =
@@ -113,9 +115,9 @@ module _ {i o : ℕ} {m : Machine} (f : Fits i o m) (hi : i ≤ 1024) (ho : o �
     stack-count = f .stack-count;
   }
 
-  fits-slices : (rom «data» input : List ℕ) → length rom ≡ 4096 → length «data» ≡ 4096 → length input ≡ i → slicesFit m rom «data» input o ≡ true
+  fits-slices : (g : Given) («data» : List ℕ) → length (g .rom) ≡ 4096 → length «data» ≡ 4096 → length (g .input) ≡ i → slicesFit m (g .rom) «data» (g .input) o ≡ true
   unfolding slicesFit memoriesFit portFits
-  fits-slices rom «data» input hr hd e =
+  fits-slices g «data» hr hd e =
       simp (
         eq-eqb _ _ hr,
         eq-eqb _ _ hd,
@@ -178,23 +180,23 @@ slices-kept (Write.Sent at word) d output h f g =
 
 -- ---- the pass
 
-module _ (rom input d : List ℕ) (o : ℕ) (x : Instruction) (m : Machine) (f : Fits (length input) o m) (g : FieldsFit x)
+module _ (g : Given) (d : List ℕ) (o : ℕ) (x : Instruction) (m : Machine) (f : Fits (length (g .input)) o m) (fields : FieldsFit x)
     (room : sends (traitsOf x .port) ≡ true → m .«output_cursor» < o)
-    (hr : WordsFit rom) (hd : WordsFit d) (hi : WordsFit input) where
-  effect-fits : EffectFits (length input) o (effectOf (traitsOf x) x (secondWord x rom d m) rom d input m)
+    (hr : WordsFit (g .rom)) (hd : WordsFit d) (hi : WordsFit (g .input)) where
+  effect-fits : EffectFits (length (g .input)) o (effectOf (traitsOf x) x (secondWord x g d m) g d m)
   unfolding effectOf
   effect-fits =
-      rule-keeps x (wordsRead (traitsOf x) (secondWord x rom d m) rom d input m) f (addressed-keeps (traitsOf x .operand) (operand-fits x g) f)
-      (words-read (traitsOf x) (secondWord x rom d m) rom d input m (second-lt x rom d m hr hd) hr hd hi) g
+      rule-keeps x (wordsRead (traitsOf x) (secondWord x g d m) g d m) f (addressed-keeps (traitsOf x .operand) (operand-fits x fields) f)
+      (words-read (traitsOf x) (secondWord x g d m) g d m (second-lt x g d m hr hd) hr hd hi) fields
       (λ e. rw (addressed-cursors (traitsOf x .operand) m .1) (room e))
 
-  passed-fits : Fits (length input) o (passedMachine (traitsOf x) x (secondWord x rom d m) rom d input m)
+  passed-fits : Fits (length (g .input)) o (passedMachine (traitsOf x) x (secondWord x g d m) g d m)
   unfolding passedMachine
-  passed-fits = followed-keeps (effectOf (traitsOf x) x (secondWord x rom d m) rom d input m .jump) (traitsOf x .words) (traitsOf x .repeatable) (effect-fits .m) (effect-fits .jump)
+  passed-fits = followed-keeps (effectOf (traitsOf x) x (secondWord x g d m) g d m .jump) (traitsOf x .words) (traitsOf x .repeatable) (effect-fits .m) (effect-fits .jump)
 
-  passed-write : WordOfWriteFits (passedWrite (traitsOf x) x (secondWord x rom d m) rom d input m)
+  passed-write : WordOfWriteFits (passedWrite (traitsOf x) x (secondWord x g d m) g d m)
   unfolding passedWrite
-  passed-write = write-fits (effectOf (traitsOf x) x (secondWord x rom d m) rom d input m .store) (m .cnf) (addressOf (traitsOf x .operand) m) (m .«output_cursor») (effect-fits .store)
+  passed-write = write-fits (effectOf (traitsOf x) x (secondWord x g d m) g d m .store) (m .cnf) (addressOf (traitsOf x .operand) m) (m .«output_cursor») (effect-fits .store)
 
 -- ---- the step
 
@@ -206,24 +208,24 @@ room-left : (t : Traits) (o : ℕ) (m : Machine) → outputFull t o m ≡ false 
 unfolding outputFull portSpent
 room-left t o m h e = leb-false _ _ (room-where (sends (t .port)) (leb o (m .«output_cursor»)) h e)
 
-module _ (rom input : List ℕ) (w : World) (k : WorldInRange rom input w) (e : stepOf rom input w .answer ≡ Done) where
-  base-in-range : (x : Instruction) → decodedAt rom (w .«data») (w .m) ≡ Built x → FieldsFit x → outputFull (traitsOf x) (length (w .output)) (w .m) ≡ false
-      → WorldInRange rom input (stepOf rom input w .world)
+module _ (g : Given) (w : World) (k : WorldInRange g w) (e : stepOf g w .answer ≡ Done) where
+  built-in-range : (x : Instruction) → decodedAt g (w .«data») (w .m) ≡ Built x → FieldsFit x → outputFull (traitsOf x) (length (w .output)) (w .m) ≡ false
+      → WorldInRange g (stepOf g w .world)
   unfolding afterStore performed
-  base-in-range x c g full =
-      let s = slices-fit (w .m) rom (w .«data») input (length (w .output)) (k .slices-fit) in
+  built-in-range x c fields full =
+      let s = slices-fit (w .m) (g .rom) (w .«data») (g .input) (length (w .output)) (k .slices-fit) in
       let room = room-left (traitsOf x) (length (w .output)) (w .m) full in
-      let f = cells-fit rom input w k in
-      let write = passedWrite (traitsOf x) x (secondWord x rom (w .«data») (w .m)) rom (w .«data») input (w .m) in
+      let f = cells-fit g w k in
+      let write = passedWrite (traitsOf x) x (secondWord x g (w .«data») (w .m)) g (w .«data») (w .m) in
       let after = slices-kept write (w .«data») (w .output)
-      (passed-write rom input (w .«data») (length (w .output)) x (w .m) f g room (k .rom-words) (k .data-words) (k .input-words)) (k .data-words) (k .output-words) in
-      let n = passed-fits rom input (w .«data») (length (w .output)) x (w .m) f g room (k .rom-words) (k .data-words) (k .input-words) in
-      let hi : length input ≤ 1024 = s .input-port .size-most in
+      (passed-write g (w .«data») (length (w .output)) x (w .m) f fields room (k .rom-words) (k .data-words) (k .input-words)) (k .data-words) (k .output-words) in
+      let n = passed-fits g (w .«data») (length (w .output)) x (w .m) f fields room (k .rom-words) (k .data-words) (k .input-words) in
+      let hi : length (g .input) ≤ 1024 = s .input-port .size-most in
       let ho : length (w .output) ≤ 1024 = s .output-port .size-most in
-      rw (step-world rom input w x c e)
+      rw (step-world g w x c e)
       (record {
         in-range = fits-ranged n hi ho;
-        slices-fit = rw (after .output-length) (fits-slices n hi ho rom (dataAfter write (w .«data»)) input (s .memories .rom-size) (after .data-length ∙ s .memories .data-size) refl);
+        slices-fit = rw (after .output-length) (fits-slices n hi ho g (dataAfter write (w .«data»)) (s .memories .rom-size) (after .data-length ∙ s .memories .data-size) refl);
         sized = fits-sized n hi ho;
         rom-words = k .rom-words;
         input-words = k .input-words;
@@ -232,21 +234,21 @@ module _ (rom input : List ℕ) (w : World) (k : WorldInRange rom input w) (e : 
       })
 
   table : Decoded → List Row
-  table c = tableFor c rom (w .«data») input (length (w .output)) (w .m)
+  table c = tableFor c g (w .«data») (length (w .output)) (w .m)
 
-  decoded-in-range : (c : Decoded) → decodedAt rom (w .«data») (w .m) ≡ c → DecodedFits c
-      → NoneHolds (table c) → WorldInRange rom input (stepOf rom input w .world)
-  unfolding table tableFor
-  decoded-in-range (Built x) c g n = base-in-range x c g (row-not (table (Built x)) 11 n)
-  decoded-in-range Unbuilt c g n = absurd (false≢true (sym (row-not (table Unbuilt) 4 n)))
-  decoded-in-range Nothing c g n = absurd (false≢true (sym (row-not (table Nothing) 3 n)))
+  decoded-in-range : (c : Decoded) → decodedAt g (w .«data») (w .m) ≡ c → DecodedFits c
+      → NoneHolds (table c) → WorldInRange g (stepOf g w .world)
+  unfolding table tableFor checkRows fetchRows encodingRows instructionRows repeatRows passRows operandRows restRows
+  decoded-in-range (Built x) c fields n = built-in-range x c fields (row-not (table (Built x)) "10" n)
+  decoded-in-range Unbuilt c fields n = absurd (false≢true (sym (row-not (table Unbuilt) "4" n)))
+  decoded-in-range Nothing c fields n = absurd (false≢true (sym (row-not (table Nothing) "3" n)))
 
-  done-in-range : WorldInRange rom input (stepOf rom input w .world)
+  done-in-range : WorldInRange g (stepOf g w .world)
   unfolding table
-  done-in-range = decoded-in-range (decodedAt rom (w .«data») (w .m)) refl (fields-at rom (w .«data») (w .m)) (row-given rom input w .done-only e)
+  done-in-range = decoded-in-range (decodedAt g (w .«data») (w .m)) refl (fields-at g (w .«data») (w .m)) (row-given g w .done-only e)
 
 pub step-in-range : StepInRange
-step-in-range rom input w k =
-    by-first rom input w
-    (λ d. done-in-range rom input w k (done-is _ d))
-    (λ r. rw (refused-unchanged rom input w r) k)
+step-in-range g w k =
+    by-first g w
+    (λ d. done-in-range g w k (done-is _ d))
+    (λ r. rw (refused-unchanged g w r) k)

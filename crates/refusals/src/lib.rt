@@ -1,6 +1,7 @@
 // The plan of a refused step, and what refuses a pass of a decoded instruction: the last rows of the order of the answers.
 use addressing::table_address;
 use answers::Answer;
+use answers::is_done;
 use machine::Machine;
 use pages::Access;
 use pages::Port;
@@ -9,10 +10,12 @@ use steps::Plan;
 use steps::Write;
 ghost use mathlib.Core.Path.{_≡_};
 ghost use mathlib.Core.Bool.{not, _&&_};
+ghost use lib.Dec.{ltb};
 ghost use Rattle.board.specs.Regions.{dataPresent, programPresent};
 ghost use Rattle.board.specs.Slices.{portSpent};
 ghost use Rattle.steps.specs.Pass.{refused};
-ghost use Rattle.steps.specs.Refusals.{accesses, wrongPort, sends, passRefusal};
+ghost use Rattle.steps.specs.Rows.{firstGiven};
+ghost use Rattle.steps.specs.Refusals.{accesses, wrongPort, sends, operandRows, restRows, passRefusal};
 
 // A refused step leaves the machine as it is and stores nothing.
 pub fn refuse(m: Machine, answer: Answer) -> Plan
@@ -64,6 +67,25 @@ fn is_present(cnf: u8, address: u32) -> bool
     false
 }
 
+// Asked only where the data word is read or written.
+fn is_above(accessed: bool, address: u32) -> bool
+    ensures { λ r. ⌜ r ≡ (accessed && ltb 65535 address) ⌝ }
+{
+    if accessed {
+        return 65535 < address;
+    }
+    false
+}
+
+fn is_data_absent(accessed: bool, cnf: u8, address: u32) -> bool
+    ensures { λ r. ⌜ r ≡ (accessed && not (dataPresent cnf address)) ⌝ }
+{
+    if accessed {
+        return !is_present(cnf, address);
+    }
+    false
+}
+
 // Of a second word or a table word, asked only where there is one. Both places are asked at once: were it `program_present`, the compiler would
 // ask the first of them in every step.
 pub fn is_program_absent(needed: bool, cnf: u8, at: u16) -> bool
@@ -86,6 +108,39 @@ fn is_output_full(sent: bool, output_length: usize, cursor: u16) -> bool
     false
 }
 
+// What the operand at this address asks: 9, 8 and 6.
+fn operand_refusal(t: Traits, address: u32, m: Machine) -> Answer
+    ensures { λ r. ⌜ r ≡ firstGiven (operandRows t address m) ⌝ }
+{
+    let port = t.port;
+    let access = t.access;
+    let accessed = is_accessed(access);
+    if is_wrong_port(port) {
+        return Answer::WrongPort;
+    }
+    if is_above(accessed, address) {
+        return Answer::AddressAbove;
+    }
+    if is_data_absent(accessed, m.cnf, address) {
+        return Answer::DataAbsent;
+    }
+    Answer::Done
+}
+
+// What the rest asks: 5 for a table word, and 10.
+fn rest_refusal(t: Traits, second: u16, output_length: usize, m: Machine) -> Answer
+    ensures { λ r. ⌜ r ≡ firstGiven (restRows t second «output_length» m) ⌝ }
+{
+    let port = t.port;
+    if is_program_absent(t.table, m.cnf, table_address(m, second)) {
+        return Answer::ProgramAbsent;
+    }
+    if is_output_full(is_sent(port), output_length, m.output_cursor) {
+        return Answer::OutputFull;
+    }
+    Answer::Done
+}
+
 // The first of the last rows of the order that holds, for an operand at this address.
 pub fn pass_refusal(
     t: Traits,
@@ -96,25 +151,9 @@ pub fn pass_refusal(
 ) -> Answer
     ensures { λ r. ⌜ r ≡ passRefusal t address second «output_length» m ⌝ }
 {
-    let port = t.port;
-    let access = t.access;
-    let accessed = is_accessed(access);
-    if is_wrong_port(port) {
-        return Answer::WrongPort;
+    let asked = operand_refusal(t, address, m);
+    if is_done(asked) {
+        return rest_refusal(t, second, output_length, m);
     }
-    if accessed {
-        if 65535 < address {
-            return Answer::AddressAbove;
-        }
-        if !is_present(m.cnf, address) {
-            return Answer::DataAbsent;
-        }
-    }
-    if is_program_absent(t.table, m.cnf, table_address(m, second)) {
-        return Answer::ProgramAbsent;
-    }
-    if is_output_full(is_sent(port), output_length, m.output_cursor) {
-        return Answer::OutputFull;
-    }
-    Answer::Done
+    asked
 }

@@ -13,11 +13,11 @@ use Rattle.answers.specs.Numbers.{numberOf, isDone}
 use Rattle.answers.specs.NumberLaws.{done-is}
 use Rattle.board.specs.SliceLaws.{slices-fit}
 use Rattle.board.specs.Windows.{wordsSent, wordsSentAnswer}
+use Rattle.board.specs.Given.{Given}
 use Rattle.runfile.specs.Files.{readAnswer, readContents, contentsFit}
 use Rattle.runfile.specs.Facts.{Below}
 use Rattle.runfile.specs.FileLaws.{counts-facts}
 use Rattle.round_trips.specs.RoundTrip.{read-within, read-sixteen-bits}
-use Rattle.setting_up.specs.SetUp.{loaded}
 use Rattle.steps.specs.World.{World, RunOutcome}
 use Rattle.steps.specs.Step.{stepOf, runOf}
 use Rattle.laws.specs.Runs.{run-none, run-done, run-refused, by-first}
@@ -27,17 +27,17 @@ use Rattle.fields.specs.Placing.{lineIn, lengthIn}
 use Rattle.fields.specs.PlacingLaws.{line-length, number-length}
 use Rattle.line.specs.Lines.{refusedLine, parted}
 use Rattle.line.specs.LineLaws.{line-of}
-use Rattle.replay_line.specs.Replay.{startOf, replayRun, runLine, replayLine}
+use Rattle.replay_line.specs.Replay.{startOf, replayRun, runLine, replayLine, givenOf}
 use Rattle.replay_line.specs.Longest.{longestLine, LineWithin, LineWhole}
 use Rattle.replay_line.specs.Digits.{one-digit, two-digits, five-digits, number-below}
 use Rattle.replay_line.specs.Start.{replay-starts}
 
 -- a run does no more steps than its budget
-steps-most : (rom input : List ℕ) (budget : ℕ) (w : World) → runOf rom input budget w .steps ≤ budget
-steps-most rom input zero w = rw (run-none rom input w) (omega arith)
-steps-most rom input (suc n) w =
-    by-first rom input w (λ d. rw (run-done rom input n w d) (omega (arith, steps-most rom input n (stepOf rom input w .world))))
-    (λ d. rw (run-refused rom input n w d) (omega arith))
+steps-most : (g : Given) (budget : ℕ) (w : World) → runOf g budget w .steps ≤ budget
+steps-most g zero w = rw (run-none g w) (omega arith)
+steps-most g (suc n) w =
+    by-first g w (λ d. rw (run-done g n w d) (omega (arith, steps-most g n (stepOf g w .world))))
+    (λ d. rw (run-refused g n w d) (omega arith))
 
 sent-most : (m : Machine) (output : List ℕ) → length (wordsSent m output) ≤ length output
 unfolding wordsSent
@@ -48,12 +48,12 @@ sent-most m output = by (isDone (wordsSentAnswer m output))
     by false = omega arith
 
 -- the line of a run that ends in range, within a 16-bit budget
-run-line-most : (rom input : List ℕ) (r : RunOutcome) → WorldInRange rom input (r .world) → r .steps ≤ 65535 → length (runLine r) ≤ longestLine
+run-line-most : (g : Given) (r : RunOutcome) → WorldInRange g (r .world) → r .steps ≤ 65535 → length (runLine r) ≤ longestLine
 unfolding runLine
-run-line-most rom input r k h =
+run-line-most g r k h =
     let w = r .world in
     let words = wordsSent (w .m) (w .output) in
-    let room = slices-fit (w .m) rom (w .«data») input (length (w .output)) (k .slices-fit) .output-port .size-most in
+    let room = slices-fit (w .m) (g .rom) (w .«data») (g .input) (length (w .output)) (k .slices-fit) .output-port .size-most in
     rw (line-of (r .answer) (r .steps) (w .m) (w .output), line-length (numberOf (r .answer)) (r .steps) (w .m .pc) (w .m .acc) (w .m .ov) words)
     (omega (arith, two-digits (numberOf (r .answer)) (number-below (r .answer)), five-digits (r .steps) (omega arith), one-digit (w .m .ov) (omega (arith, ranged (w .m) (k .in-range) .ov)), sent-most (w .m) (w .output), room))
 
@@ -64,8 +64,8 @@ module _ (bytes : List ℕ) (below : Below 256 bytes) where
       let c = readContents bytes in
       let bits = read-sixteen-bits bytes below done in
       let start = replay-starts c (counts-facts _ _ _ (read-within bytes below done)) bits in
-      run-line-most (loaded c .rom) (loaded c .input) _ (runs-in-range (loaded c .rom) (loaded c .input) (c .budget) (startOf c) start .world-in-range)
-      (omega (arith, steps-most (loaded c .rom) (loaded c .input) (c .budget) (startOf c), bits .budget))
+      run-line-most (givenOf c) _ (runs-in-range (givenOf c) (c .budget) (startOf c) start .world-in-range)
+      (omega (arith, steps-most (givenOf c) (c .budget) (startOf c), bits .budget))
 
   refused-most : length (refusedLine (readAnswer bytes)) ≤ longestLine
   unfolding refusedLine parted

@@ -7,6 +7,7 @@ use Rattle.machine.specs.Reset.{resetMachine}
 use Rattle.answers.specs.Numbers.{isDone}
 use Rattle.runfile.specs.Files.{Contents, readAnswer, readContents}
 use Rattle.setting_up.specs.SetUp.{loaded}
+use Rattle.board.specs.Given.{Given, given}
 use Rattle.steps.specs.World.{World, RunOutcome}
 use Rattle.steps.specs.Step.{runOf}
 use Rattle.line.specs.Lines.{lineOf, refusedLine}
@@ -15,8 +16,12 @@ use Rattle.line.specs.Lines.{lineOf, refusedLine}
 unfoldable pub startOf : Contents → World
 startOf c = record { m = resetMachine; «data» = loaded c .data-memory; output = replicate 1024 0 }
 
+-- the ROM and the input words of a file
+unfoldable pub givenOf : Contents → Given
+givenOf c = given (loaded c .rom) (loaded c .input)
+
 unfoldable pub replayRun : Contents → RunOutcome
-replayRun c = runOf (loaded c .rom) (loaded c .input) (c .budget) (startOf c)
+replayRun c = runOf (givenOf c) (c .budget) (startOf c)
 
 -- the line of a run also where a step was refused (ruling R35)
 unfoldable pub runLine : RunOutcome → List ℕ

@@ -9,7 +9,7 @@ use Rattle.setting_up.specs.SetUp.{memoryWith, loaded}
 use Rattle.setting_up.specs.MemoryLaws.{memory-length}
 use Rattle.ranges.specs.Ranges.{WordsFit, WorldInRange}
 use Rattle.ranges.specs.Runs.{start-in-range}
-use Rattle.replay_line.specs.Replay.{startOf}
+use Rattle.replay_line.specs.Replay.{givenOf, startOf}
 
 words-fit : (words : List ℕ) → Below 65536 words → WordsFit words
 words-fit [] b = tt
@@ -29,10 +29,10 @@ memory-fits address words b =
     both-fit (replicate address 0) _ (zeros-fit address) (both-fit words _ (words-fit words b) (zeros-fit (4096 - (address + length words))))
 
 pub replay-starts : (c : Contents) → CountsKept (length (c .program)) (length (c .data-words)) (length (c .input)) → SixteenBits c
-    → WorldInRange (loaded c .rom) (loaded c .input) (startOf c)
-unfolding loaded startOf
+    → WorldInRange (givenOf c) (startOf c)
+unfolding loaded givenOf startOf
 replay-starts c counts bits =
-    start-in-range _ _ _ _ (memory-length 0 (c .program) (omega (arith, counts .program-most)))
+    start-in-range _ _ _ (memory-length 0 (c .program) (omega (arith, counts .program-most)))
     (memory-length 0x400 (c .data-words) (omega (arith, counts .data-most)))
     (counts .input-most)
     (omega (arith, length-replicate {A = ℕ} 1024 0))

@@ -13,8 +13,9 @@ use Rattle.machine.specs.Reset.{resetMachine}
 use Rattle.answers.specs.declared.Answer.the-variants.{Done, FileShort, FileRules, FileVersion}
 use Rattle.answers.specs.Numbers.{isDone}
 use Rattle.board.specs.Slices.{memoriesFit}
+use Rattle.board.specs.Given.{given}
 use Rattle.runfile.specs.declared.reading.Head.{Head}
-use Rattle.runfile.specs.Files.{Contents, numbersOf, rulesKept, readAnswer, readContents, headOf}
+use Rattle.runfile.specs.Files.{numbersOf, rulesKept, readAnswer, readContents, headOf}
 use Rattle.setting_up.specs.SetUp.{lent, lentFit, setUpAnswer, loaded, setUp}
 use Rattle.runfile.specs.FileLaws.{accepted, head-read, rules-facts}
 use Rattle.emulator.specs.declared.Ran.{Ran}
@@ -24,7 +25,7 @@ use Rattle.fields.specs.Placing.{lineIn, lengthIn}
 use Rattle.line.specs.Lines.{lineOf, refusedLine}
 use Rattle.replay_line.specs.Longest.{longestLine}
 use Rattle.replay_line.specs.LongestLaws.{line-whole}
-use Rattle.replay_line.specs.Replay.{startOf, replayRun, runLine, replayLine}
+use Rattle.replay_line.specs.Replay.{startOf, replayRun, runLine, replayLine, givenOf}
 use Rattle.replaying.specs.Facts.{FreshSlices}
 
 -- what was put down of a line, where the line has another name
@@ -79,9 +80,9 @@ module _ (bytes : List ℕ) where
         → data₁ ≡ setUp bytes (lent rom dataMemory input) .data-memory
         → input₁ ≡ setUp bytes (lent rom dataMemory input) .input
         → m ≡ resetMachine
-        → ran r data₂ output₂ ≡ runOf rom₁ input₁ budget (record { m = m; «data» = data₁; output = output })
+        → ran r data₂ output₂ ≡ runOf (given rom₁ input₁) budget (record { m = m; «data» = data₁; output = output })
         → lineOf (r .answer) (r .steps) (r .m) output₂ ≡ replayLine bytes
-    unfolding runLine replayRun startOf
+    unfolding runLine replayRun givenOf startOf
     run-replay {data₂ = data₂} {output₂ = output₂} r b e₁ e₂ e₃ e₄ e =
         let same : ran r data₂ output₂ ≡ replayRun (readContents bytes) = e ∙ rw (e₁, e₂, e₃, e₄, b, fresh-loaded, f .output-zeros) in
         ap runLine same ∙ accepted-replay done

@@ -8,10 +8,10 @@ use lib.ListN.{getD, set}
 use Rattle.alu.specs.Registers.{wrappedSum}
 use Rattle.machine.specs.declared.Machine.{Machine}
 use Rattle.answers.specs.Numbers.{isDone}
+use Rattle.answers.specs.NumberLaws.{done-is}
 use Rattle.instructions.specs.declared.Instruction.{Instruction}
 use Rattle.instructions.specs.declared.Instruction.the-variants as Family
 use Rattle.instructions.specs.declared.Modes.the-variants.{Rpt, Rptk}
-use Rattle.instructions.specs.declared.Multiplier.the-variants.{Mac}
 use Rattle.instructions.specs.declared.Decoded.the-variants.{Built, Nothing}
 use Rattle.pages.specs.declared.Operand.the-variants.{At}
 use Rattle.pages.specs.Traits.{traitsOf, modesTraits, multiplierTraits}
@@ -26,15 +26,17 @@ use Rattle.pages.specs.Rules.{ruleOf}
 use Rattle.board.specs.Regions.{inRom, inProgramB0, moveAllowed}
 use Rattle.board.specs.Windows.{windowOf, programWord}
 use Rattle.board.specs.WindowLaws.{rom-word, b0-word}
+use Rattle.board.specs.Given.{Given}
 use Rattle.steps.specs.declared.Write.the-variants as Write
 use Rattle.steps.specs.Stores.{writeOf, dataAfter, outputAfter}
 use Rattle.steps.specs.Pass.{readWord, wordsRead, effectOf, passedMachine, passedWrite, performed}
 use Rattle.steps.specs.World.{World}
 use Rattle.steps.specs.Table.{decodedAt, secondWord}
-use Rattle.steps.specs.Step.{afterStore, stepOf, runOf}
+use Rattle.steps.specs.Step.{afterStore, stepOf, runOf, worldAfter}
+use Rattle.steps.specs.TableLaws.{step-world}
 use Rattle.frames.specs.Frames.{Pair, accumulated, passed, Every, Words}
 use Rattle.stacking.specs.Stacking.{pairFor, pairAt, pairsRead, Repeats, by-rptk, by-rpt, Accumulates, by-mac, by-macd, Sized}
-use Rattle.stacking.specs.Passing.{step-does, runs-on, run-goes-on, run-ended, Alike, operand-alike, accumulationOf, followed-follows, again, goes-past, mac-works, move-keeps}
+use Rattle.stacking.specs.Passing.{runs-on, run-goes-on, run-ended, Alike, operand-alike, accumulationOf, followed-follows, again, goes-past, mac-works, move-keeps}
 
 -- ---- words of 16 bits
 sized-set : (l : List ℕ) (j word : ℕ) → ((i : ℕ) → getD l i 0 < 2 ^ 16) → word < 2 ^ 16 → (i : ℕ) → getD (set l j word) i 0 < 2 ^ 16
@@ -66,8 +68,8 @@ pub record Began (w v : World) (k : ℕ) : Type 0 where
   pub pc : v .m .pc ≡ wrappedSum (w .m .pc) 1
   pub same-data : v .«data» ≡ w .«data»
 
-module _ (rom input : List ℕ) (w : World) where
-  repeats : (r : Instruction) (k : ℕ) → Repeats w r k → Began w (afterStore (performed (traitsOf r) r (secondWord r rom (w .«data») (w .m)) rom (w .«data») input (w .m)) w) k
+module _ (g : Given) (w : World) where
+  repeats : (r : Instruction) (k : ℕ) → Repeats w r k → Began w (afterStore (performed (traitsOf r) r (secondWord r g (w .«data») (w .m)) g (w .«data») (w .m)) w) k
   unfolding afterStore performed passedMachine passedWrite effectOf traitsOf modesTraits ruleOf modesRule RPT RPTK followed destination writeOf dataAfter wordsRead readWord accumulationOf
   repeats _ _ (by-rptk k) =
       let a = operand-alike (traitsOf (Family.Modes (Rptk k)) .operand) (w .m) in
@@ -76,24 +78,24 @@ module _ (rom input : List ℕ) (w : World) where
       let a = operand-alike (traitsOf (Family.Modes (Rpt x)) .operand) (w .m) in
       record { accumulation = rw (a .acc, a .p, a .ov); ovm = a .ovm; pm = a .pm; cnf = a .cnf; rptc = refl; pc = rw (a .pc); same-data = refl }
 
-  pub began : (r : Instruction) (k : ℕ) → Repeats w r k → decodedAt rom (w .«data») (w .m) ≡ Built r → isDone (stepOf rom input w .answer) ≡ true → Began w (stepOf rom input w .world) k
-  began r k g is done = rw (step-does rom input w r is done) (repeats r k g)
+  pub began : (r : Instruction) (k : ℕ) → Repeats w r k → decodedAt g (w .«data») (w .m) ≡ Built r → isDone (stepOf g w .answer) ≡ true → Began w (stepOf g w .world) k
+  began r k gives is done = rw (step-world g w r is (done-is _ done)) (repeats r k gives)
 
 -- ---- one pass
-pub record Went (rom : List ℕ) (w v : World) (pair : Pair) : Type 0 where
+pub record Went (g : Given) (w v : World) (pair : Pair) : Type 0 where
   pub accumulation : accumulationOf (v .m) ≡ accumulated (w .m .pm) (w .m .ovm) pair (accumulationOf (w .m))
   pub ovm : v .m .ovm ≡ w .m .ovm
   pub pm : v .m .pm ≡ w .m .pm
   pub cnf : v .m .cnf ≡ w .m .cnf
-  pub program : (x : ℕ) → programWord (w .m .cnf) x rom (v .«data») ≡ programWord (w .m .cnf) x rom (w .«data»)
+  pub program : (x : ℕ) → programWord (w .m .cnf) x (g .rom) (v .«data») ≡ programWord (w .m .cnf) x (g .rom) (w .«data»)
   pub sized : Sized (w .«data») → Sized (v .«data»)
   pub repeats-on : (k : ℕ) → w .m .rptc ≡ suc k → (v .m .rptc ≡ k) × (v .m .pc ≡ w .m .pc)
   pub ends : w .m .rptc ≡ 0 → v .m .pc ≡ wrappedSum (w .m .pc) 2
 
 -- the machine of a pass, whatever it stores
-module _ (rom : List ℕ) (w : World) (n : Machine) (a : Alike (w .m) n) (word table at : ℕ) (d output : List ℕ)
-    (program : (x : ℕ) → programWord (w .m .cnf) x rom d ≡ programWord (w .m .cnf) x rom (w .«data»)) (sized : Sized (w .«data») → Sized d) where
-  went : Went rom w (record { m = followed (MAC word table at n) Past 2 true; «data» = d; output = output }) (record { dataWord = word; programWord = table })
+module _ (g : Given) (w : World) (n : Machine) (a : Alike (w .m) n) (word table at : ℕ) (d output : List ℕ)
+    (program : (x : ℕ) → programWord (w .m .cnf) x (g .rom) d ≡ programWord (w .m .cnf) x (g .rom) (w .«data»)) (sized : Sized (w .«data») → Sized d) where
+  went : Went g w (record { m = followed (MAC word table at n) Past 2 true; «data» = d; output = output }) (record { dataWord = word; programWord = table })
   unfolding MAC APAC
   went =
       let f = followed-follows (MAC word table at n) Past 2 true in
@@ -104,7 +106,7 @@ module _ (rom : List ℕ) (w : World) (n : Machine) (a : Alike (w .m) n) (word t
         cnf = f .cnf ∙ a .cnf;
         program = program;
         sized = sized;
-        repeats-on = λ k e. let g = again (MAC word table at n) 2 k (a .rptc ∙ e) in (g .0, g .1 ∙ a .pc);
+        repeats-on = λ k e. let on = again (MAC word table at n) 2 k (a .rptc ∙ e) in (on .0, on .1 ∙ a .pc);
         ends = λ e. goes-past (MAC word table at n) 2 (a .rptc ∙ e) ∙ ap (λ (p : ℕ). wrappedSum p 2) (a .pc);
       }
 
@@ -119,29 +121,29 @@ module _ (rom : List ℕ) (cnf a word : ℕ) (d : List ℕ) (b : word < 2 ^ 16) 
   moved-by true e = record { program = move-keeps cnf a word rom d e; sized = λ s. set-sized d (a + 1) word s b }
   moved-by false e = record { program = λ x. refl; sized = λ s. s }
 
-module _ (rom input : List ℕ) (w : World) (data-sized : Sized (w .«data»)) where
+module _ (g : Given) (w : World) (data-sized : Sized (w .«data»)) where
   goes : (i : Instruction) → Accumulates i
-      → Went rom w (afterStore (performed (traitsOf i) i (secondWord i rom (w .«data») (w .m)) rom (w .«data») input (w .m)) w) (pairFor (Built i) rom input w)
+      → Went g w (afterStore (performed (traitsOf i) i (secondWord i g (w .«data») (w .m)) g (w .«data») (w .m)) w) (pairFor (Built i) g w)
   unfolding afterStore performed passedMachine passedWrite effectOf traitsOf multiplierTraits ruleOf multiplierRule MACD writeOf dataAfter outputAfter wordsRead readWord pairFor
   goes _ (by-mac a) =
-      went rom w (addressed (At a) (w .m)) (operand-alike (At a) (w .m)) _ _ _ (w .«data») _ (λ x. refl) (λ s. s)
+      went g w (addressed (At a) (w .m)) (operand-alike (At a) (w .m)) _ _ _ (w .«data») _ (λ x. refl) (λ s. s)
   goes _ (by-macd a) =
       let word = getD (w .«data») (addressOf (At a) (w .m)) 0 in
-      let v = moved-by rom (w .m .cnf) (addressOf (At a) (w .m)) word (w .«data») (data-sized .bits (addressOf (At a) (w .m))) (moveAllowed (w .m .cnf) (addressOf (At a) (w .m))) refl in
-      went rom w (addressed (At a) (w .m)) (operand-alike (At a) (w .m)) word _ _ _ _ (v .program) (v .sized)
+      let v = moved-by (g .rom) (w .m .cnf) (addressOf (At a) (w .m)) word (w .«data») (data-sized .bits (addressOf (At a) (w .m))) (moveAllowed (w .m .cnf) (addressOf (At a) (w .m))) refl in
+      went g w (addressed (At a) (w .m)) (operand-alike (At a) (w .m)) word _ _ _ _ (v .program) (v .sized)
 
-  pub goes-on : (i : Instruction) → Accumulates i → decodedAt rom (w .«data») (w .m) ≡ Built i → isDone (stepOf rom input w .answer) ≡ true
-      → Went rom w (stepOf rom input w .world) (pairAt rom input w)
+  pub goes-on : (i : Instruction) → Accumulates i → decodedAt g (w .«data») (w .m) ≡ Built i → isDone (stepOf g w .answer) ≡ true
+      → Went g w (stepOf g w .world) (pairAt g w)
   unfolding pairAt
-  goes-on i acc is done = rw (step-does rom input w i is done, is) (goes i acc)
+  goes-on i acc is done = rw (step-world g w i is (done-is _ done), is) (goes i acc)
 
   -- the words of a pass have 16 bits
-  pair-sized : (i : Instruction) → Accumulates i → Sized rom → (pairFor (Built i) rom input w .dataWord < 2 ^ 16) × (pairFor (Built i) rom input w .programWord < 2 ^ 16)
+  pair-sized : (i : Instruction) → Accumulates i → Sized (g .rom) → (pairFor (Built i) g w .dataWord < 2 ^ 16) × (pairFor (Built i) g w .programWord < 2 ^ 16)
   unfolding pairFor wordsRead readWord traitsOf multiplierTraits
-  pair-sized _ (by-mac a) r = (data-sized .bits _, program-sized _ _ rom (w .«data») r data-sized)
-  pair-sized _ (by-macd a) r = (data-sized .bits _, program-sized _ _ rom (w .«data») r data-sized)
+  pair-sized _ (by-mac a) r = (data-sized .bits _, program-sized _ _ (g .rom) (w .«data») r data-sized)
+  pair-sized _ (by-macd a) r = (data-sized .bits _, program-sized _ _ (g .rom) (w .«data») r data-sized)
 
-  pub read-sized : (i : Instruction) → Accumulates i → decodedAt rom (w .«data») (w .m) ≡ Built i → Sized rom → (pairAt rom input w .dataWord < 2 ^ 16) × (pairAt rom input w .programWord < 2 ^ 16)
+  pub read-sized : (i : Instruction) → Accumulates i → decodedAt g (w .«data») (w .m) ≡ Built i → Sized (g .rom) → (pairAt g w .dataWord < 2 ^ 16) × (pairAt g w .programWord < 2 ^ 16)
   unfolding pairAt
   read-sized i acc is r = rw is (pair-sized i acc r)
 
@@ -156,41 +158,36 @@ plus-is zero j = omega arith
 plus-is (suc k) j = omega (arith, plus-is k j)
 
 -- ---- n passes of one repeat of k + 1, and j steps after them
-pub record Passed (rom input : List ℕ) (n k j : ℕ) (w v : World) : Type 0 where
-  pub accumulation : accumulationOf (v .m) ≡ passed (w .m .pm) (w .m .ovm) (pairsRead rom input n w) (accumulationOf (w .m))
+pub record Passed (g : Given) (n k j : ℕ) (w v : World) : Type 0 where
+  pub accumulation : accumulationOf (v .m) ≡ passed (w .m .pm) (w .m .ovm) (pairsRead g n w) (accumulationOf (w .m))
   pub ovm : v .m .ovm ≡ w .m .ovm
   pub pm : v .m .pm ≡ w .m .pm
   pub cnf : v .m .cnf ≡ w .m .cnf
   pub pc : n ≡ suc k → v .m .pc ≡ wrappedSum (w .m .pc) 2
-  pub program : (x : ℕ) → programWord (w .m .cnf) x rom (v .«data») ≡ programWord (w .m .cnf) x rom (w .«data»)
-  pub words : Words (pairsRead rom input n w)
-  pub rest-done : isDone (runOf rom input j v .answer) ≡ true
-  pub same-end : runOf rom input (plus n j) w .world ≡ runOf rom input j v .world
-
--- the world after n steps
-unfoldable pub after : List ℕ → List ℕ → ℕ → World → World
-after rom input zero w = w
-after rom input (suc n) w = after rom input n (stepOf rom input w .world)
+  pub program : (x : ℕ) → programWord (w .m .cnf) x (g .rom) (v .«data») ≡ programWord (w .m .cnf) x (g .rom) (w .«data»)
+  pub words : Words (pairsRead g n w)
+  pub rest-done : isDone (runOf g j v .answer) ≡ true
+  pub same-end : runOf g (plus n j) w .world ≡ runOf g j v .world
 
 -- it is the world that a run of n steps leaves, where a run as long or longer is not refused
-pub run-to : (rom input : List ℕ) (n most : ℕ) (w : World) → n ≤ most → isDone (runOf rom input most w .answer) ≡ true → runOf rom input n w .world ≡ after rom input n w
-unfolding after
-run-to rom input zero most w h done = run-ended rom input w
-run-to rom input (suc n) zero w h done = absurd (omega arith)
-run-to rom input (suc n) (suc most) w h done =
-    let o = runs-on rom input most w done in
-    run-goes-on rom input n w (o .step-done) ∙ run-to rom input n most (stepOf rom input w .world) (omega arith) (o .rest-done)
+pub run-to : (g : Given) (n most : ℕ) (w : World) → n ≤ most → isDone (runOf g most w .answer) ≡ true → runOf g n w .world ≡ worldAfter g n w
+unfolding worldAfter
+run-to g zero most w h done = run-ended g w
+run-to g (suc n) zero w h done = absurd (omega arith)
+run-to g (suc n) (suc most) w h done =
+    let o = runs-on g most w done in
+    run-goes-on g n w (o .step-done) ∙ run-to g n most (stepOf g w .world) (omega arith) (o .rest-done)
 
 -- the next pass meets the same instruction
-again-there : (rom : List ℕ) (w v : World) (pair : Pair) (i : Instruction) → Went rom w v pair → decodedAt rom (w .«data») (w .m) ≡ Built i → v .m .pc ≡ w .m .pc → decodedAt rom (v .«data») (v .m) ≡ Built i
+again-there : (g : Given) (w v : World) (pair : Pair) (i : Instruction) → Went g w v pair → decodedAt g (w .«data») (w .m) ≡ Built i → v .m .pc ≡ w .m .pc → decodedAt g (v .«data») (v .m) ≡ Built i
 unfolding decodedAt
-again-there rom w v pair i g is p = rw (g .cnf, p, g .program (w .m .pc)) is
+again-there g w v pair i went-on is p = rw (went-on .cnf, p, went-on .program (w .m .pc)) is
 
-pub all-passed : (rom input : List ℕ) (i : Instruction) → Accumulates i → Sized rom → (n k j : ℕ) (w : World) → Sized (w .«data»)
-    → decodedAt rom (w .«data») (w .m) ≡ Built i → w .m .rptc ≡ k → n ≤ suc k → isDone (runOf rom input (plus n j) w .answer) ≡ true
-    → Passed rom input n k j w (after rom input n w)
-unfolding plus after pairsRead passed Words Every
-all-passed rom input i acc r zero k j w s is e l done =
+pub all-passed : (g : Given) (i : Instruction) → Accumulates i → Sized (g .rom) → (n k j : ℕ) (w : World) → Sized (w .«data»)
+    → decodedAt g (w .«data») (w .m) ≡ Built i → w .m .rptc ≡ k → n ≤ suc k → isDone (runOf g (plus n j) w .answer) ≡ true
+    → Passed g n k j w (worldAfter g n w)
+unfolding plus worldAfter pairsRead passed Words Every
+all-passed g i acc r zero k j w s is e l done =
     record {
       accumulation = refl;
       ovm = refl;
@@ -202,43 +199,43 @@ all-passed rom input i acc r zero k j w s is e l done =
       rest-done = done;
       same-end = refl;
     }
-all-passed rom input i acc r (suc zero) k j w s is e l done =
-    let o = runs-on rom input j w done in
-    let g = goes-on rom input w s i acc is (o .step-done) in
+all-passed g i acc r (suc zero) k j w s is e l done =
+    let o = runs-on g j w done in
+    let went-on = goes-on g w s i acc is (o .step-done) in
     record {
-      accumulation = g .accumulation;
-      ovm = g .ovm;
-      pm = g .pm;
-      cnf = g .cnf;
-      pc = λ all. g .ends (omega arith);
-      program = g .program;
-      words = (read-sized rom input w s i acc is r, tt);
+      accumulation = went-on .accumulation;
+      ovm = went-on .ovm;
+      pm = went-on .pm;
+      cnf = went-on .cnf;
+      pc = λ all. went-on .ends (omega arith);
+      program = went-on .program;
+      words = (read-sized g w s i acc is r, tt);
       rest-done = o .rest-done;
       same-end = o .same-end;
     }
-all-passed rom input i acc r (suc (suc n)) zero j w s is e l done = absurd (omega arith)
-all-passed rom input i acc r (suc (suc n)) (suc k) j w s is e l done =
-    let o = runs-on rom input (plus (suc n) j) w done in
-    let g = goes-on rom input w s i acc is (o .step-done) in
-    let h = g .repeats-on k e in
-    let same = again-there rom w (stepOf rom input w .world) (pairAt rom input w) i g is (h .1) in
-    let ih = all-passed rom input i acc r (suc n) k j (stepOf rom input w .world) (g .sized s) same (h .0) (omega arith) (o .rest-done) in
+all-passed g i acc r (suc (suc n)) zero j w s is e l done = absurd (omega arith)
+all-passed g i acc r (suc (suc n)) (suc k) j w s is e l done =
+    let o = runs-on g (plus (suc n) j) w done in
+    let went-on = goes-on g w s i acc is (o .step-done) in
+    let h = went-on .repeats-on k e in
+    let same = again-there g w (stepOf g w .world) (pairAt g w) i went-on is (h .1) in
+    let ih = all-passed g i acc r (suc n) k j (stepOf g w .world) (went-on .sized s) same (h .0) (omega arith) (o .rest-done) in
     record {
-      accumulation = ih .accumulation ∙ by-cells rom input (suc n) w g;
-      ovm = ih .ovm ∙ g .ovm;
-      pm = ih .pm ∙ g .pm;
-      cnf = ih .cnf ∙ g .cnf;
+      accumulation = ih .accumulation ∙ by-cells g (suc n) w went-on;
+      ovm = ih .ovm ∙ went-on .ovm;
+      pm = ih .pm ∙ went-on .pm;
+      cnf = ih .cnf ∙ went-on .cnf;
       pc = λ all. ih .pc (omega arith) ∙ ap (λ (p : ℕ). wrappedSum p 2) (h .1);
-      program = λ x. by-cnf rom x w (stepOf rom input w .world) (after rom input (suc n) (stepOf rom input w .world)) (g .cnf) (ih .program x) ∙ g .program x;
-      words = (read-sized rom input w s i acc is r, ih .words);
+      program = λ x. by-cnf (g .rom) x w (stepOf g w .world) (worldAfter g (suc n) (stepOf g w .world)) (went-on .cnf) (ih .program x) ∙ went-on .program x;
+      words = (read-sized g w s i acc is r, ih .words);
       rest-done = ih .rest-done;
       same-end = o .same-end ∙ ih .same-end;
     }
   where
-    by-cells : (rom input : List ℕ) (n : ℕ) (w : World) → Went rom w (stepOf rom input w .world) (pairAt rom input w)
-        → passed (stepOf rom input w .world .m .pm) (stepOf rom input w .world .m .ovm) (pairsRead rom input n (stepOf rom input w .world)) (accumulationOf (stepOf rom input w .world .m))
-        ≡ passed (w .m .pm) (w .m .ovm) (pairsRead rom input n (stepOf rom input w .world)) (accumulated (w .m .pm) (w .m .ovm) (pairAt rom input w) (accumulationOf (w .m)))
-    by-cells rom input n w g = rw (g .pm, g .ovm, g .accumulation)
+    by-cells : (g : Given) (n : ℕ) (w : World) → Went g w (stepOf g w .world) (pairAt g w)
+        → passed (stepOf g w .world .m .pm) (stepOf g w .world .m .ovm) (pairsRead g n (stepOf g w .world)) (accumulationOf (stepOf g w .world .m))
+        ≡ passed (w .m .pm) (w .m .ovm) (pairsRead g n (stepOf g w .world)) (accumulated (w .m .pm) (w .m .ovm) (pairAt g w) (accumulationOf (w .m)))
+    by-cells g n w went-on = rw (went-on .pm, went-on .ovm, went-on .accumulation)
 
     by-cnf : (rom : List ℕ) (x : ℕ) (w v u : World) → v .m .cnf ≡ w .m .cnf → programWord (v .m .cnf) x rom (u .«data») ≡ programWord (v .m .cnf) x rom (v .«data»)
         → programWord (w .m .cnf) x rom (u .«data») ≡ programWord (w .m .cnf) x rom (v .«data»)

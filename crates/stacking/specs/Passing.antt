@@ -1,23 +1,20 @@
 -- What the steps of a stack do to the cells that matter, and that they leave the program alone.
-use mathlib.Core.Path.{_≡_, refl, sym, _∙_, ap}
+use mathlib.Core.Path.{_≡_, refl, sym, _∙_}
 use mathlib.Core.Bool.{Bool, true, false, cond, _&&_, false≢true}
-use mathlib.Core.List.{List, []}
+use mathlib.Core.List.{List}
 use Prim.Native.Nat.{ℕ, suc, _+_, _-_, _≤_}
 use native.Mathlib.Omega.{arith}
 use lib.Dec.{ltb}
-use lib.ListN.{length, getD, set}
+use lib.ListN.{set}
 use lib.Seq.{getD-set-other}
 use borrow.Author.Tests.{lt-ltb, le-ltb}
 use Rattle.alu.specs.Registers.{wrappedSum}
 use Rattle.machine.specs.declared.Machine.{Machine}
 use Rattle.answers.specs.Numbers.{isDone}
-use Rattle.instructions.specs.declared.Instruction.{Instruction}
 use Rattle.dma.specs.declared.Address.the-variants as Mode
 use Rattle.dma.specs.declared.NextArp.{NextArp}
 use Rattle.dma.specs.declared.NextArp.the-variants as Next
-use Rattle.instructions.specs.declared.Decoded.{Decoded}
-use Rattle.instructions.specs.declared.Decoded.the-variants.{Built, Nothing}
-use Rattle.pages.specs.Traits.{traitsOf}
+use Rattle.instructions.specs.declared.Decoded.the-variants.{Nothing}
 use Rattle.pages.specs.declared.Operand.{Operand}
 use Rattle.pages.specs.declared.Operand.the-variants as Operand
 use Rattle.pages.specs.declared.Jump.{Jump}
@@ -32,52 +29,33 @@ use Rattle.board.specs.RegionFacts.{Lies}
 use Rattle.board.specs.RegionLaws.{region-lies, moves, program-b0}
 use Rattle.board.specs.Windows.{windowOf, programWord}
 use Rattle.board.specs.WindowLaws.{rom-word, b0-word}
-use Rattle.steps.specs.declared.Plan.{Plan}
-use Rattle.steps.specs.Pass.{performed, refused}
+use Rattle.board.specs.Given.{Given}
 use Rattle.steps.specs.World.{World}
-use Rattle.steps.specs.Table.{decodedAt, secondWord, refusalOf}
-use Rattle.steps.specs.Step.{pagePlan, planOf, afterStore, stepOf, runOf}
+use Rattle.steps.specs.Step.{stepOf, runOf}
 use Rattle.frames.specs.Frames.{Accumulation, productAdded, accumulated}
 
--- ---- a step that is done does what its page says
-
-by-test : (t : Bool) (i : Instruction) (a b : Plan) → isDone (cond t a b .answer) ≡ true → isDone (b .answer) ≡ t → cond t a b ≡ a
-by-test true i a b h e = refl
-by-test false i a b h e = absurd (false≢true (sym e ∙ h))
-
-module _ (rom input : List ℕ) (w : World) (i : Instruction) (is : decodedAt rom (w .«data») (w .m) ≡ Built i) (done : isDone (stepOf rom input w .answer) ≡ true) where
-  plan-done : planOf rom (w .«data») input (length (w .output)) (w .m) ≡ performed (traitsOf i) i (secondWord i rom (w .«data») (w .m)) rom (w .«data») input (w .m)
-  unfolding planOf stepOf pagePlan
-  plan-done =
-      by-test (isDone (refusalOf rom (w .«data») input (length (w .output)) (w .m))) i _ _ done refl
-      ∙ ap (λ (d : Decoded). pagePlan d rom (w .«data») input (w .m)) is
-
-  pub step-does : stepOf rom input w .world ≡ afterStore (performed (traitsOf i) i (secondWord i rom (w .«data») (w .m)) rom (w .«data») input (w .m)) w
-  unfolding stepOf
-  step-does = ap (λ (p : Plan). afterStore p w) plan-done
-
 -- ---- a run that is not refused, step by step
-pub record RunsOn (rom input : List ℕ) (n : ℕ) (w : World) : Type 0 where
-  pub step-done : isDone (stepOf rom input w .answer) ≡ true
-  pub rest-done : isDone (runOf rom input n (stepOf rom input w .world) .answer) ≡ true
-  pub same-end : runOf rom input (suc n) w .world ≡ runOf rom input n (stepOf rom input w .world) .world
+pub record RunsOn (g : Given) (n : ℕ) (w : World) : Type 0 where
+  pub step-done : isDone (stepOf g w .answer) ≡ true
+  pub rest-done : isDone (runOf g n (stepOf g w .world) .answer) ≡ true
+  pub same-end : runOf g (suc n) w .world ≡ runOf g n (stepOf g w .world) .world
 
 -- the steps after one that is done
-pub run-goes-on : (rom input : List ℕ) (n : ℕ) (w : World) → isDone (stepOf rom input w .answer) ≡ true → runOf rom input (suc n) w .world ≡ runOf rom input n (stepOf rom input w .world) .world
+pub run-goes-on : (g : Given) (n : ℕ) (w : World) → isDone (stepOf g w .answer) ≡ true → runOf g (suc n) w .world ≡ runOf g n (stepOf g w .world) .world
 unfolding runOf
-run-goes-on rom input n w e = rw e
+run-goes-on g n w e = rw e
 
-pub runs-on : (rom input : List ℕ) (n : ℕ) (w : World) → isDone (runOf rom input (suc n) w .answer) ≡ true → RunsOn rom input n w
+pub runs-on : (g : Given) (n : ℕ) (w : World) → isDone (runOf g (suc n) w .answer) ≡ true → RunsOn g n w
 unfolding runOf
-runs-on rom input n w h = by (isDone (stepOf rom input w .answer)) refl h
+runs-on g n w h = by (isDone (stepOf g w .answer)) refl h
   where
-    by : (t : Bool) → isDone (stepOf rom input w .answer) ≡ t → isDone (runOf rom input (suc n) w .answer) ≡ true → RunsOn rom input n w
-    by true e h = record { step-done = e; rest-done = rw e at h; same-end = run-goes-on rom input n w e }
+    by : (t : Bool) → isDone (stepOf g w .answer) ≡ t → isDone (runOf g (suc n) w .answer) ≡ true → RunsOn g n w
+    by true e h = record { step-done = e; rest-done = rw e at h; same-end = run-goes-on g n w e }
     by false e h = absurd (false≢true (sym e ∙ (rw e at h)))
 
-pub run-ended : (rom input : List ℕ) (w : World) → runOf rom input 0 w .world ≡ w
+pub run-ended : (g : Given) (w : World) → runOf g 0 w .world ≡ w
 unfolding runOf
-run-ended rom input w = refl
+run-ended g w = refl
 
 -- ---- the cells that matter
 pub record Alike (m n : Machine) : Type 0 where

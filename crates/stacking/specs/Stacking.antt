@@ -20,6 +20,7 @@ use Rattle.pages.specs.declared.Operand.the-variants.{At}
 use Rattle.pages.specs.Traits.{traitsOf}
 use Rattle.pages.specs.Addressing.{addressOf}
 use Rattle.board.specs.Windows.{programWord}
+use Rattle.board.specs.Given.{Given}
 use Rattle.steps.specs.Pass.{wordsRead}
 use Rattle.steps.specs.World.{World}
 use Rattle.steps.specs.Table.{decodedAt, secondWord}
@@ -29,27 +30,27 @@ use Rattle.frames.specs.Frames.{Pair, Near, exactSum, AllLeast}
 -- ---- the words that the passes read, taken from the run itself
 
 -- the data word and the program word that the next step reads
-unfoldable pub pairFor : Decoded → List ℕ → List ℕ → World → Pair
-pairFor (Built i) rom input w = record {
-  dataWord = wordsRead (traitsOf i) (secondWord i rom (w .«data») (w .m)) rom (w .«data») input (w .m) .operand;
-  programWord = wordsRead (traitsOf i) (secondWord i rom (w .«data») (w .m)) rom (w .«data») input (w .m) .table;
+unfoldable pub pairFor : Decoded → Given → World → Pair
+pairFor (Built i) g w = record {
+  dataWord = wordsRead (traitsOf i) (secondWord i g (w .«data») (w .m)) g (w .«data») (w .m) .operand;
+  programWord = wordsRead (traitsOf i) (secondWord i g (w .«data») (w .m)) g (w .«data») (w .m) .table;
 }
-pairFor Unbuilt rom input w = record { dataWord = 0; programWord = 0 }
-pairFor Nothing rom input w = record { dataWord = 0; programWord = 0 }
+pairFor Unbuilt g w = record { dataWord = 0; programWord = 0 }
+pairFor Nothing g w = record { dataWord = 0; programWord = 0 }
 
-unfoldable pub pairAt : List ℕ → List ℕ → World → Pair
-pairAt rom input w = pairFor (decodedAt rom (w .«data») (w .m)) rom input w
+unfoldable pub pairAt : Given → World → Pair
+pairAt g w = pairFor (decodedAt g (w .«data») (w .m)) g w
 
 -- those of n steps, one after another
-unfoldable pub pairsRead : List ℕ → List ℕ → ℕ → World → List Pair
-pairsRead rom input zero w = []
-pairsRead rom input (suc n) w = pairAt rom input w ∷ pairsRead rom input n (stepOf rom input w .world)
+unfoldable pub pairsRead : Given → ℕ → World → List Pair
+pairsRead g zero w = []
+pairsRead g (suc n) w = pairAt g w ∷ pairsRead g n (stepOf g w .world)
 
 -- ---- what stands at PC
 
 -- the program word at `ahead` words past PC
-unfoldable pub wordAhead : List ℕ → ℕ → World → ℕ
-wordAhead rom ahead w = programWord (w .m .cnf) (wrappedSum (w .m .pc) ahead) rom (w .«data»)
+unfoldable pub wordAhead : Given → ℕ → World → ℕ
+wordAhead g ahead w = programWord (w .m .cnf) (wrappedSum (w .m .pc) ahead) (g .rom) (w .«data»)
 
 -- "an RPTK or an RPT that gives" a count
 pub data Repeats (w : World) : Instruction → ℕ → Type 0 where
@@ -66,46 +67,46 @@ pub record Sized (words : List ℕ) : Type 0 where
   pub bits : (i : ℕ) → getD words i 0 < 2 ^ 16
 
 -- "From ACC, P and OV zero, product shift 3, no repeat pending": the count k is n - 1; the run of n + 2 steps is not refused
-pub record Stacks (rom input : List ℕ) (w : World) (k : ℕ) : Type 0 where
+pub record Stacks (g : Given) (w : World) (k : ℕ) : Type 0 where
   pub acc-zero : w .m .acc ≡ 0
   pub p-zero : w .m .p ≡ 0
   pub ov-zero : w .m .ov ≡ 0
   pub shift-three : w .m .pm ≡ 3
   pub no-repeat : w .m .rptc ≡ 0
   pub repeat : Instruction
-  pub repeat-first : decodedAt rom (w .«data») (w .m) ≡ Built repeat
+  pub repeat-first : decodedAt g (w .«data») (w .m) ≡ Built repeat
   pub repeat-gives : Repeats w repeat k
   pub accumulate : Instruction
-  pub accumulate-second : decodeOf (wordAhead rom 1 w) ≡ Built accumulate
+  pub accumulate-second : decodeOf (wordAhead g 1 w) ≡ Built accumulate
   pub accumulates : Accumulates accumulate
-  pub apac-third : decodeOf (wordAhead rom 3 w) ≡ Built (Family.Multiplier Apac)
-  pub not-refused : isDone (runOf rom input (k + 3) w .answer) ≡ true
-  pub rom-sized : Sized rom
+  pub apac-third : decodeOf (wordAhead g 3 w) ≡ Built (Family.Multiplier Apac)
+  pub not-refused : isDone (runOf g (k + 3) w .answer) ≡ true
+  pub rom-sized : Sized (g .rom)
   pub data-sized : Sized (w .«data»)
 
 -- the world that the run leaves, and the words that its n passes read: those of the steps after the first
-unfoldable pub lastWorld : List ℕ → List ℕ → World → ℕ → World
-lastWorld rom input w k = runOf rom input (k + 3) w .world
+unfoldable pub lastWorld : Given → World → ℕ → World
+lastWorld g w k = runOf g (k + 3) w .world
 
-unfoldable pub words : List ℕ → List ℕ → World → ℕ → List Pair
-words rom input w k = pairsRead rom input (suc k) (stepOf rom input w .world)
+unfoldable pub words : Given → World → ℕ → List Pair
+words g w k = pairsRead g (suc k) (stepOf g w .world)
 
 -- "OV stays 0": it is 0 at the start, and after each of these steps of the run
-abbrev pub StaysZero : List ℕ → List ℕ → World → ℕ → Type 0
-StaysZero rom input w steps = (j : ℕ) → j ≤ steps → runOf rom input j w .world .m .ov ≡ 0
+abbrev pub StaysZero : Given → World → ℕ → Type 0
+StaysZero g w steps = (j : ℕ) → j ≤ steps → runOf g j w .world .m .ov ≡ 0
 
 -- "OV stays 0 and 0 <= S - 64 A <= 63 n": OV after each of the n + 2 steps, A after the last
-pub record Holds (rom input : List ℕ) (w : World) (k : ℕ) : Type 0 where
-  pub ov : StaysZero rom input w (k + 3)
-  pub near : Near (suc k) (exactSum (words rom input w k)) (signed 32 (lastWorld rom input w k .m .acc))
+pub record Holds (g : Given) (w : World) (k : ℕ) : Type 0 where
+  pub ov : StaysZero g w (k + 3)
+  pub near : Near (suc k) (exactSum (words g w k)) (signed 32 (lastWorld g w k .m .acc))
 
 -- the next step is the final product add
-abbrev pub AtApac : List ℕ → World → Type 0
-AtApac rom w = decodedAt rom (w .«data») (w .m) ≡ Built (Family.Multiplier Apac)
+abbrev pub AtApac : Given → World → Type 0
+AtApac g w = decodedAt g (w .«data») (w .m) ≡ Built (Family.Multiplier Apac)
 
 -- "for n = 128 OV is set exactly when all 256 words read are -32768, and otherwise the same bounds hold": no step before the last sets it, whatever the words are
-pub record HoldsAt128 (rom input : List ℕ) (w : World) (k : ℕ) : Type 0 where
-  pub before-the-last : StaysZero rom input w (k + 2)
-  pub last-is-apac : AtApac rom (runOf rom input (k + 2) w .world)
-  pub set-by-the-last : lastWorld rom input w k .m .ov ≡ 1 ↔ AllLeast (words rom input w k)
-  pub otherwise : (AllLeast (words rom input w k) → ⊥) → Holds rom input w k
+pub record HoldsAt128 (g : Given) (w : World) (k : ℕ) : Type 0 where
+  pub before-the-last : StaysZero g w (k + 2)
+  pub last-is-apac : AtApac g (runOf g (k + 2) w .world)
+  pub set-by-the-last : lastWorld g w k .m .ov ≡ 1 ↔ AllLeast (words g w k)
+  pub otherwise : (AllLeast (words g w k) → ⊥) → Holds g w k

@@ -21,11 +21,12 @@ use Rattle.pages.specs.Passes.{followed, destination}
 use Rattle.board.specs.Regions.{dataRegion, dataPresent, inRom, inProgramB0, programPresent}
 use Rattle.board.specs.Slices.{memoriesFit, portFits, portSpent, slicesFit}
 use Rattle.board.specs.Windows.{windowOf, programWord}
+use Rattle.board.specs.Given.{given}
 use Rattle.steps.specs.Rows.{firstGiven}
-use Rattle.steps.specs.Refusals.{accesses, wrongPort, sends, addressAbove, dataAbsent, tableAbsent, outputFull}
+use Rattle.steps.specs.Refusals.{accesses, wrongPort, sends, addressAbove, dataAbsent, tableAbsent, outputFull, passRows, operandRows, restRows}
 use Rattle.steps.specs.Stores.{writeOf, dataAfter, outputAfter}
-use Rattle.steps.specs.Pass.{readWord, wordsRead, effectOf, passedMachine, passedWrite, performed}
-use Rattle.steps.specs.Table.{checksOf, decodedAt, secondAddress, secondWord, notRepeatable, secondAbsent, tableFor, refusalOf}
+use Rattle.steps.specs.Pass.{readWord, wordsRead, effectOf, passedMachine, passedWrite, performed, planBy}
+use Rattle.steps.specs.Table.{checksOf, decodedAt, secondAddress, secondWord, notRepeatable, secondAbsent, tableFor, checkRows, fetchRows, encodingRows, instructionRows, repeatRows}
 use Rattle.steps.specs.Step.{pagePlan, planOf, afterStore, stepOf, runOf}
 use Rattle.answers.specs.Numbers.{numberOf}
 use Rattle.steps.specs.World.{RunOutcome}
@@ -40,9 +41,9 @@ pub record Computed : Type 0 where
   pub all-127 : shown (runWith 126 0x8000 1) ≡ 0 ∷ 129 ∷ 0x7F00_0000 ∷ 0 ∷ []
   pub all-128-held : shown (runWith 127 0x8000 1) ≡ 0 ∷ 130 ∷ 0x7FFF_FFFF ∷ 1 ∷ []
   pub all-128-turned-over : shown (runWith 127 0x8000 0) ≡ 0 ∷ 130 ∷ 0x8000_0000 ∷ 1 ∷ []
-  pub all-128-before-the-last : shown (runOf (romWith 127 0x8000) [] 129 (worldWith 1)) ≡ 0 ∷ 129 ∷ 0x7F00_0000 ∷ 0 ∷ []
+  pub all-128-before-the-last : shown (runOf (given (romWith 127 0x8000) []) 129 (worldWith 1)) ≡ 0 ∷ 129 ∷ 0x7F00_0000 ∷ 0 ∷ []
   pub one-changed-128 : shown (runWith 127 0x8001 1) ≡ 0 ∷ 130 ∷ 0x7FFF_FE00 ∷ 0 ∷ []
 
 pub computed : Computed
-unfolding signed low holds held settled carry noBorrow added subtracted product productWord leftBy rightBy productShift shiftedProduct productHigh productLow wrappedSum wrappedDifference reversed reversedSum resetMachine inRange lowFits modificationOf nextOf indirectOf addressModeOf decodeOf traitsOf multiplierTraits moved pointed modified addressed addressOf APAC tableAddress multiplierRule ruleOf followed destination dataRegion dataPresent inRom inProgramB0 programPresent memoriesFit portFits portSpent slicesFit windowOf programWord firstGiven accesses wrongPort sends addressAbove dataAbsent tableAbsent outputFull readWord wordsRead effectOf writeOf passedMachine passedWrite performed dataAfter outputAfter decodedAt secondAddress secondWord notRepeatable secondAbsent tableFor refusalOf pagePlan planOf afterStore stepOf modesTraits MAC RPTK modesRule checksOf runOf romWith worldWith runWith
+unfolding signed low holds held settled carry noBorrow added subtracted product productWord leftBy rightBy productShift shiftedProduct productHigh productLow wrappedSum wrappedDifference reversed reversedSum resetMachine inRange lowFits modificationOf nextOf indirectOf addressModeOf decodeOf traitsOf multiplierTraits moved pointed modified addressed addressOf APAC tableAddress multiplierRule ruleOf followed destination dataRegion dataPresent inRom inProgramB0 programPresent memoriesFit portFits portSpent slicesFit windowOf programWord firstGiven accesses wrongPort sends addressAbove dataAbsent tableAbsent outputFull readWord wordsRead effectOf writeOf passedMachine passedWrite performed dataAfter outputAfter decodedAt secondAddress secondWord notRepeatable secondAbsent tableFor checkRows fetchRows encodingRows instructionRows repeatRows passRows operandRows restRows planBy pagePlan planOf afterStore stepOf modesTraits MAC RPTK modesRule checksOf runOf romWith worldWith runWith
 computed = record { all-127 = refl; all-128-held = refl; all-128-turned-over = refl; all-128-before-the-last = refl; one-changed-128 = refl }

@@ -7,6 +7,7 @@ use Rattle.machine.specs.Cells.{withPm, withOvm}
 use Rattle.machine.specs.Reset.{resetMachine}
 use Rattle.steps.specs.World.{World, RunOutcome}
 use Rattle.steps.specs.Step.{runOf}
+use Rattle.board.specs.Given.{given}
 
 -- the table: 128 words that are all -32768 but perhaps the last
 abbrev table : ℕ → List ℕ
@@ -21,4 +22,4 @@ worldWith ovm = record { m = withOvm (withPm resetMachine 3) ovm; «data» = set
 
 -- the run of a stack of k + 1 frames
 unfoldable pub runWith : ℕ → ℕ → ℕ → RunOutcome
-runWith k last ovm = runOf (romWith k last) [] (k + 3) (worldWith ovm)
+runWith k last ovm = runOf (given (romWith k last) []) (k + 3) (worldWith ovm)

@@ -14,6 +14,7 @@ use Rattle.steps.specs.World.{World, RunOutcome}
 use Rattle.steps.specs.Step.{runOf}
 use Rattle.frames.specs.Frames.{exactSum}
 use Rattle.stacking.specs.Stacking.{words}
+use Rattle.board.specs.Given.{given}
 
 -- from 0000h on: MACD FF00h, *+; APAC
 unfoldable pub edgeRom : List ℕ
@@ -39,7 +40,7 @@ edgeWorld = record { m = edgeMachine; «data» = edgeData; output = [] }
 
 -- the run of n + 2 steps
 unfoldable pub edgeRun : RunOutcome
-edgeRun = runOf edgeRom [] 6 edgeWorld
+edgeRun = runOf (given edgeRom []) 6 edgeWorld
 
 -- What document 01's rules come to, by hand. RPT takes the count 3, leaves MID 0, since it is not repeatable, and PC is FFFFh + 1 = 0000h. The first pass reads -3 at 0300h
 -- and copies it to 0301h, where the second reads it, and so on, so each product is -3 times a word of the table: -3, -6, -300, -98301. With product shift 3 each is
@@ -49,6 +50,6 @@ pub record EdgeCase : Type 0 where
   pub comes-to : numberOf (edgeRun .answer) ∷ edgeRun .steps ∷ edgeRun .world .m .acc ∷ edgeRun .world .m .ov ∷ [] ≡ 0 ∷ 6 ∷ 0xFFFF_F9F9 ∷ 0 ∷ []
   -- PC, PFC, MID, AR1, and the last word moved
   pub leaves : edgeRun .world .m .pc ∷ edgeRun .world .m .pfc ∷ edgeRun .world .m .mid ∷ register (edgeRun .world .m) 1 ∷ getD (edgeRun .world .«data») 0x304 0 ∷ [] ≡ 0x0003 ∷ 0xFF04 ∷ 0 ∷ 0x304 ∷ 0xFFFD ∷ []
-  pub reads : words edgeRom [] edgeWorld 3
+  pub reads : words (given edgeRom []) edgeWorld 3
       ≡ record { dataWord = 0xFFFD; programWord = 1 } ∷ record { dataWord = 0xFFFD; programWord = 2 } ∷ record { dataWord = 0xFFFD; programWord = 100 } ∷ record { dataWord = 0xFFFD; programWord = 32767 } ∷ []
-  pub exact : exactSum (words edgeRom [] edgeWorld 3) ≡ negℤ (pos 98610)
+  pub exact : exactSum (words (given edgeRom []) edgeWorld 3) ≡ negℤ (pos 98610)

@@ -26,11 +26,12 @@ use Rattle.pages.specs.Passes.{followed, destination}
 use Rattle.board.specs.Regions.{dataRegion, dataPresent, onChip, moveAllowed, inRom, inProgramB0, programPresent}
 use Rattle.board.specs.Slices.{memoriesFit, portFits, portSpent, slicesFit}
 use Rattle.board.specs.Windows.{windowOf, programWord}
+use Rattle.board.specs.Given.{given}
 use Rattle.steps.specs.Rows.{firstGiven}
-use Rattle.steps.specs.Refusals.{accesses, wrongPort, sends, addressAbove, dataAbsent, tableAbsent, outputFull}
+use Rattle.steps.specs.Refusals.{accesses, wrongPort, sends, addressAbove, dataAbsent, tableAbsent, outputFull, passRows, operandRows, restRows}
 use Rattle.steps.specs.Stores.{writeOf, dataAfter, outputAfter}
-use Rattle.steps.specs.Pass.{readWord, wordsRead, effectOf, passedMachine, passedWrite, performed}
-use Rattle.steps.specs.Table.{checksOf, decodedAt, secondAddress, secondWord, notRepeatable, secondAbsent, tableFor, refusalOf}
+use Rattle.steps.specs.Pass.{readWord, wordsRead, effectOf, passedMachine, passedWrite, performed, planBy}
+use Rattle.steps.specs.Table.{checksOf, decodedAt, secondAddress, secondWord, notRepeatable, secondAbsent, tableFor, checkRows, fetchRows, encodingRows, instructionRows, repeatRows}
 use Rattle.steps.specs.Step.{pagePlan, planOf, afterStore, stepOf, runOf}
 use Rattle.instructions.specs.declared.Instruction.the-variants as Family
 use Rattle.dma.specs.declared.Address.{Address}
@@ -46,14 +47,14 @@ use Rattle.stacking_cases.specs.EdgeCase.{edgeRom, edgeData, edgeMachine
 use Rattle.stacking_cases.specs.SizedLaws.{allSized, sized-by}
 
 pub edge-case : EdgeCase
-unfolding signed low holds held settled carry added product productWord leftBy rightBy productShift shiftedProduct wrappedSum resetMachine inRange lowFits modificationOf nextOf indirectOf addressModeOf decodeOf traitsOf multiplierTraits moved pointed modified addressed addressOf APAC tableAddress multiplierRule ruleOf followed destination dataRegion dataPresent onChip moveAllowed inRom inProgramB0 programPresent memoriesFit portFits portSpent slicesFit windowOf programWord firstGiven accesses wrongPort sends addressAbove dataAbsent tableAbsent outputFull readWord wordsRead effectOf writeOf passedMachine passedWrite performed dataAfter outputAfter decodedAt secondAddress secondWord notRepeatable secondAbsent tableFor refusalOf pagePlan planOf afterStore stepOf modesTraits MAC MACD RPT modesRule checksOf runOf pairFor pairAt pairsRead words exactSum edgeRom edgeData edgeMachine edgeWorld edgeRun
+unfolding signed low holds held settled carry added product productWord leftBy rightBy productShift shiftedProduct wrappedSum resetMachine inRange lowFits modificationOf nextOf indirectOf addressModeOf decodeOf traitsOf multiplierTraits moved pointed modified addressed addressOf APAC tableAddress multiplierRule ruleOf followed destination dataRegion dataPresent onChip moveAllowed inRom inProgramB0 programPresent memoriesFit portFits portSpent slicesFit windowOf programWord firstGiven accesses wrongPort sends addressAbove dataAbsent tableAbsent outputFull readWord wordsRead effectOf writeOf passedMachine passedWrite performed dataAfter outputAfter decodedAt secondAddress secondWord notRepeatable secondAbsent tableFor checkRows fetchRows encodingRows instructionRows repeatRows passRows operandRows restRows planBy pagePlan planOf afterStore stepOf modesTraits MAC MACD RPT modesRule checksOf runOf pairFor pairAt pairsRead words exactSum edgeRom edgeData edgeMachine edgeWorld edgeRun
 edge-case = record { comes-to = refl; leaves = refl; reads = refl; exact = refl }
 
 -- *+
 abbrev plusOne : Address
 plusOne = Indirect (record { modification = Plus; next = Same })
 
-pub edge-stacks : Stacks edgeRom [] edgeWorld 3
+pub edge-stacks : Stacks (given edgeRom []) edgeWorld 3
 unfolding wordAhead allSized wrappedSum resetMachine lowFits modificationOf nextOf indirectOf addressModeOf decodeOf addressOf inRom inProgramB0 windowOf programWord decodedAt edgeRom edgeData edgeMachine edgeWorld edgeRun
 edge-stacks = record {
   acc-zero = refl;
@@ -74,5 +75,5 @@ edge-stacks = record {
 }
 
 -- so OV stays 0 in it, and the bounds hold
-pub edge-holds : Holds edgeRom [] edgeWorld 3
-edge-holds = demand edgeRom [] edgeWorld 3 edge-stacks (omega arith)
+pub edge-holds : Holds (given edgeRom []) edgeWorld 3
+edge-holds = demand (given edgeRom []) edgeWorld 3 edge-stacks (omega arith)

@@ -13,6 +13,7 @@ use Rattle.instructions.specs.Encoding.{lowFits, modificationOf, nextOf, indire
 use Rattle.instructions.specs.Decode.{decodeOf}
 use Rattle.board.specs.Regions.{inRom, inProgramB0}
 use Rattle.board.specs.Windows.{windowOf, programWord}
+use Rattle.board.specs.Given.{Given, given}
 use Rattle.steps.specs.Table.{decodedAt}
 use Rattle.instructions.specs.declared.Instruction.the-variants as Family
 use Rattle.dma.specs.declared.Address.the-variants.{Direct}
@@ -32,8 +33,7 @@ unfolding wordAhead lastWorld allSized resetMachine lowFits modificationOf nextO
 overflows-128 =
     let held = computed .all-128-held in
     record {
-      rom = romWith 127 0x8000;
-      input = [];
+      g = given (romWith 127 0x8000) [];
       w = worldWith 1;
       stacks = record {
         acc-zero = refl;
@@ -56,14 +56,14 @@ overflows-128 =
     }
 
 pub most-127 : MostFrames 127
-most-127 = record { safe = λ rom input w k s h. demand rom input w k s h .ov; tight = overflows-128 }
+most-127 = record { safe = λ g w k s h. demand g w k s h .ov; tight = overflows-128 }
 
 -- a figure below the other would let the other's stack overflow
 not-below : (n n′ : ℕ) → MostFrames n → MostFrames n′ → n < n′ → ⊥
 unfolding lastWorld
 not-below n n′ a b h =
     let t = a .tight in
-    let o = b .safe (t .rom) (t .input) (t .w) n (t .stacks) (omega arith) (n + 3) (omega arith) in
+    let o = b .safe (t .g) (t .w) n (t .stacks) (omega arith) (n + 3) (omega arith) in
     let z : _≡_ {A = ℕ} 0 1 = sym o ∙ t .overflowed in
     omega arith
 
@@ -71,8 +71,8 @@ pub one-figure : (n n′ : ℕ) → MostFrames n → MostFrames n′ → n ≡ n
 one-figure n n′ a b = both-ways _ _ (by-contra _ _ (λ l. not-below n′ n b a (omega arith))) (by-contra _ _ (λ l. not-below n n′ a b (omega arith)))
 
 -- not every stack of 128 frames is without overflow
-pub spm-page-refuted : ((rom input : List ℕ) (w : World) → Stacks rom input w 127 → lastWorld rom input w 127 .m .ov ≡ 0) → ⊥
+pub spm-page-refuted : ((g : Given) (w : World) → Stacks g w 127 → lastWorld g w 127 .m .ov ≡ 0) → ⊥
 spm-page-refuted all =
     let t = overflows-128 in
-    let z : _≡_ {A = ℕ} 0 1 = sym (all (t .rom) (t .input) (t .w) (t .stacks)) ∙ t .overflowed in
+    let z : _≡_ {A = ℕ} 0 1 = sym (all (t .g) (t .w) (t .stacks)) ∙ t .overflowed in
     omega arith

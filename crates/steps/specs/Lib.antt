@@ -7,6 +7,9 @@ pub mod World
 pub mod Table
 pub mod Step
 -- proofs
+pub mod RowLaws
+pub mod RefusalLaws
+pub mod TableLaws
 pub mod StoreLaws
 pub mod Stages
 pub mod StepLaws

@@ -1,6 +1,6 @@
 -- What refuses a pass of an instruction, decoded, with its second word.
 use mathlib.Core.Bool.{Bool, true, false, not, _&&_}
-use mathlib.Core.List.{[], _∷_}
+use mathlib.Core.List.{List, [], _∷_, _++_}
 use Prim.Native.Nat.{ℕ}
 use lib.Dec.{ltb, eqb}
 use Rattle.machine.specs.declared.Machine.{Machine}
@@ -14,7 +14,7 @@ use Rattle.pages.specs.declared.Traits.{Traits}
 use Rattle.pages.specs.MultiplierPages.{tableAddress}
 use Rattle.board.specs.Regions.{dataPresent, programPresent}
 use Rattle.board.specs.Slices.{portSpent}
-use Rattle.steps.specs.Rows.{row, firstGiven}
+use Rattle.steps.specs.Rows.{Row, row, firstGiven}
 
 -- the addressed data word is read or written
 unfoldable pub accesses : Access → Bool
@@ -49,13 +49,24 @@ tableAbsent t second m = t .table && not (programPresent (m .cnf) (tableAddress 
 unfoldable pub outputFull : Traits → ℕ → Machine → Bool
 outputFull t outputLength m = sends (t .port) && portSpent outputLength (m .«output_cursor»)
 
--- the last rows of the order, for an operand at this address: "9, 8, 6, 5 for a MAC or MACD table word, 10"
+-- what the operand asks, for an operand at this address: "9, 8, 6"
+unfoldable pub operandRows : Traits → ℕ → Machine → List Row
+operandRows t address m =
+    row "9" WrongPort (wrongPort (t .port))
+    ∷ row "8" AddressAbove (addressAbove t address)
+    ∷ row "6" DataAbsent (dataAbsent t address m)
+    ∷ []
+
+-- what the rest asks: "5 for a MAC or MACD table word, 10"
+unfoldable pub restRows : Traits → ℕ → ℕ → Machine → List Row
+restRows t second outputLength m =
+    row "5 for a table word" ProgramAbsent (tableAbsent t second m)
+    ∷ row "10" OutputFull (outputFull t outputLength m)
+    ∷ []
+
+-- the rows of a pass, the last of the order
+unfoldable pub passRows : Traits → ℕ → ℕ → ℕ → Machine → List Row
+passRows t address second outputLength m = operandRows t address m ++ restRows t second outputLength m
+
 unfoldable pub passRefusal : Traits → ℕ → ℕ → ℕ → Machine → Answer
-passRefusal t address second outputLength m =
-    firstGiven
-    (row WrongPort (wrongPort (t .port))
-    ∷ row AddressAbove (addressAbove t address)
-    ∷ row DataAbsent (dataAbsent t address m)
-    ∷ row ProgramAbsent (tableAbsent t second m)
-    ∷ row OutputFull (outputFull t outputLength m)
-    ∷ [])
+passRefusal t address second outputLength m = firstGiven (passRows t address second outputLength m)

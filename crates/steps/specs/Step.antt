@@ -9,34 +9,44 @@ use Rattle.answers.specs.Numbers.{isDone}
 use Rattle.instructions.specs.declared.Decoded.{Decoded}
 use Rattle.instructions.specs.declared.Decoded.the-variants.{Built, Unbuilt, Nothing}
 use Rattle.pages.specs.Traits.{traitsOf}
+use Rattle.board.specs.Given.{Given}
 use Rattle.steps.specs.declared.Plan.{Plan}
 use Rattle.steps.specs.Stores.{dataAfter, outputAfter}
-use Rattle.steps.specs.Pass.{performed, refused}
+use Rattle.steps.specs.Pass.{performed, refused, planBy}
 use Rattle.steps.specs.World.{World, Outcome, RunOutcome}
-use Rattle.steps.specs.Table.{decodedAt, secondWord, refusalOf, checksOf}
+use Rattle.steps.specs.Table.{decodedAt, secondWord, tableFor, checksOf}
+use Rattle.steps.specs.Rows.{Row}
 
 -- What the step does where nothing refuses it: the rule of the word's page. (A word that is no instruction, or none that is built, is always refused.)
-unfoldable pub pagePlan : Decoded → List ℕ → List ℕ → List ℕ → Machine → Plan
-pagePlan (Built i) rom «data» input m = performed (traitsOf i) i (secondWord i rom «data» m) rom «data» input m
-pagePlan Unbuilt rom «data» input m = refused m Done
-pagePlan Nothing rom «data» input m = refused m Done
+unfoldable pub pagePlan : Decoded → Given → List ℕ → Machine → Plan
+pagePlan (Built i) g «data» m = performed (traitsOf i) i (secondWord i g «data» m) g «data» m
+pagePlan Unbuilt g «data» m = refused m Done
+pagePlan Nothing g «data» m = refused m Done
 
--- cells, answer and store of a step, by value
-unfoldable pub planOf : List ℕ → List ℕ → List ℕ → ℕ → Machine → Plan
-planOf rom «data» input outputLength m =
-    cond (isDone (refusalOf rom «data» input outputLength m))
-    (pagePlan (decodedAt rom «data» m) rom «data» input m)
-    (refused m (refusalOf rom «data» input outputLength m))
+-- Cells, answer and store of a step, by value: the refusal by the first row of the table that holds, and else what the page's rule makes of the machine.
+unfoldable pub planOf : Given → List ℕ → ℕ → Machine → Plan
+planOf g «data» outputLength m =
+    planBy (tableFor (decodedAt g «data» m) g «data» outputLength m) m
+    (pagePlan (decodedAt g «data» m) g «data» m)
 
 -- the world after the one store of a plan
 unfoldable pub afterStore : Plan → World → World
 afterStore plan w = record { m = plan .m; «data» = dataAfter (plan .write) (w .«data»); output = outputAfter (plan .write) (w .output) }
 
-unfoldable pub stepOf : List ℕ → List ℕ → World → Outcome
-stepOf rom input w = record {
-  world = afterStore (planOf rom (w .«data») input (length (w .output)) (w .m)) w;
-  answer = planOf rom (w .«data») input (length (w .output)) (w .m) .answer;
+unfoldable pub stepOf : Given → World → Outcome
+stepOf g w = record {
+  world = afterStore (planOf g (w .«data») (length (w .output)) (w .m)) w;
+  answer = planOf g (w .«data») (length (w .output)) (w .m) .answer;
 }
+
+-- the table of answers of a step
+abbrev pub rowsOf : Given → World → List Row
+rowsOf g w = tableFor (decodedAt g (w .«data») (w .m)) g (w .«data») (length (w .output)) (w .m)
+
+-- the world after k steps, refused or not
+unfoldable pub worldAfter : Given → ℕ → World → World
+worldAfter g zero w = w
+worldAfter g (suc k) w = worldAfter g k (stepOf g w .world)
 
 -- one step more before a run
 abbrev pub oneMore : RunOutcome → RunOutcome
@@ -46,9 +56,9 @@ abbrev pub stopped : Outcome → RunOutcome
 stopped o = record { world = o .world; steps = 0; answer = o .answer }
 
 -- "A run takes a budget, stops at the first refused step, and reports the steps done (the refused one not counted) and the last answer. Budget 0 makes checks 1 and 2 only."
-unfoldable pub runOf : List ℕ → List ℕ → ℕ → World → RunOutcome
-runOf rom input zero w = record { world = w; steps = 0; answer = checksOf rom (w .«data») input (length (w .output)) (w .m) }
-runOf rom input (suc n) w =
-    cond (isDone (stepOf rom input w .answer))
-    (oneMore (runOf rom input n (stepOf rom input w .world)))
-    (stopped (stepOf rom input w))
+unfoldable pub runOf : Given → ℕ → World → RunOutcome
+runOf g zero w = record { world = w; steps = 0; answer = checksOf g (w .«data») (length (w .output)) (w .m) }
+runOf g (suc n) w =
+    cond (isDone (stepOf g w .answer))
+    (oneMore (runOf g n (stepOf g w .world)))
+    (stopped (stepOf g w))

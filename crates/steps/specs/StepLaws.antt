@@ -1,122 +1,80 @@
 -- What a step stores lies in the lent slices, and what a run keeps on its way.
 use mathlib.Core.Path.{_≡_, refl, sym, _∙_, ap}
-use mathlib.Core.Bool.{Bool, true, false, not, cond, false≢true}
-use mathlib.Core.List.{List, [], _∷_}
+use mathlib.Core.Bool.{true, false}
+use mathlib.Core.List.{List}
 use Prim.Native.Nat.{ℕ, suc, _+_, _-_, _≤_, _<_}
 use native.Mathlib.Omega.{arith}
 use lib.ListN.{length}
 use borrow.Author.Tests.{not-false}
 use Rattle.machine.specs.declared.Machine.{Machine}
-use Rattle.machine.specs.Range.{inRange}
-use Rattle.answers.specs.declared.Answer.{Answer}
-use Rattle.answers.specs.declared.Answer.the-variants.{CellOutOfRange, SlicesUnfit, ProgramAbsent, NotRepeatable}
 use Rattle.answers.specs.Numbers.{isDone}
-use Rattle.instructions.specs.declared.Instruction.{Instruction}
 use Rattle.instructions.specs.declared.Decoded.{Decoded}
 use Rattle.instructions.specs.declared.Decoded.the-variants.{Built, Unbuilt, Nothing}
-use Rattle.pages.specs.Traits.{traitsOf}
-use Rattle.pages.specs.Addressing.{addressOf}
-use Rattle.board.specs.Regions.{programPresent}
-use Rattle.board.specs.Slices.{slicesFit}
 use Rattle.board.specs.SliceLaws.{slices-fit}
+use Rattle.board.specs.Given.{Given}
 use Rattle.steps.specs.declared.Plan.{Plan}
-use Rattle.steps.specs.Rows.{Row, row, firstGiven}
-use Rattle.steps.specs.Refusals.{dataAbsent, passRefusal}
-use Rattle.steps.specs.Pass.{refused, performed, passPlan}
+use Rattle.steps.specs.Rows.{NoneHolds}
+use Rattle.steps.specs.Refusals.{passRows, operandRows, restRows}
+use Rattle.steps.specs.Pass.{performed}
 use Rattle.steps.specs.StoreLaws.{WriteFits, write-fits}
 use Rattle.steps.specs.World.{World, Outcome, RunOutcome}
-use Rattle.steps.specs.Table.{decodedAt, secondWord, notRepeatable, secondAbsent, checksOf}
-use Rattle.steps.specs.Step.{planOf, stepOf, runOf}
-use Rattle.steps.specs.Stages.{instructionPlan, decodedPlan, fetchPlan, stages}
+use Rattle.steps.specs.Table.{decodedAt, secondWord, checksOf, tableFor, checkRows, fetchRows, encodingRows, instructionRows, repeatRows}
+use Rattle.steps.specs.Step.{planOf, stepOf, runOf, pagePlan}
+use Rattle.steps.specs.RowLaws.{row-not, plan-has}
 
--- where a table gives Done its first row does not hold, and the rest gives Done
-pub first-not : (given : Bool) (a : Answer) (rows : List Row) → isDone a ≡ false → isDone (firstGiven (row a given ∷ rows)) ≡ true
-    → (given ≡ false) × (isDone (firstGiven rows) ≡ true)
-unfolding firstGiven
-first-not true a rows h e = absurd (false≢true (sym h ∙ e))
-first-not false a rows h e = (refl, e)
-
-module _ (rom d input : List ℕ) (outputLength : ℕ) (m : Machine) where
-  -- a pass that is not refused has its data word on the board
-  not-absent : (i : Instruction) (second : ℕ) → isDone (passRefusal (traitsOf i) (addressOf (traitsOf i .operand) m) second outputLength m) ≡ true → dataAbsent (traitsOf i) (addressOf (traitsOf i .operand) m) m ≡ false
-  unfolding passRefusal
-  not-absent i second e = first-not _ _ _ refl (first-not _ _ _ refl (first-not _ _ _ refl e .1) .1) .0
-
+module _ (g : Given) (d : List ℕ) (outputLength : ℕ) (m : Machine) where
   -- what a plan stores fits the data slice
-  record Fits (p : Plan) : Type 0 where
-    fits : WriteFits (p .write) (length d)
+  abbrev Fits : Plan → Type 0
+  Fits p = WriteFits (p .write) (length d)
 
-  -- a refusal stores nothing
-  refused-or : (t : Bool) (a : Answer) (b : Plan) → (t ≡ false → Fits b) → Fits (cond t (refused m a) b)
-  refused-or true a b f = record { fits = tt }
-  refused-or false a b f = f refl
+  decoded-fits : (x : Decoded) → NoneHolds (tableFor x g d outputLength m) → Fits (pagePlan x g d m)
+  unfolding tableFor checkRows fetchRows encodingRows instructionRows repeatRows passRows operandRows restRows pagePlan performed
+  decoded-fits (Built i) n =
+      write-fits i (secondWord i g d m) g d m
+      (slices-fit m (g .rom) d (g .input) outputLength (not-false _ (row-not (tableFor (Built i) g d outputLength m) "2" n)) .memories .data-size)
+      (row-not (tableFor (Built i) g d outputLength m) "6" n)
+  decoded-fits Unbuilt n = tt
+  decoded-fits Nothing n = tt
 
-  done-or : (t : Bool) (a : Answer) (b : Plan) → (t ≡ true → Fits b) → Fits (cond t b (refused m a))
-  done-or true a b f = f refl
-  done-or false a b f = record { fits = tt }
-
-  pass-fits : (i : Instruction) (second : ℕ) → length d ≡ 4096 → Fits (passPlan (traitsOf i) i second rom d input outputLength m)
-  unfolding passPlan performed
-  pass-fits i second h = done-or (isDone (passRefusal (traitsOf i) (addressOf (traitsOf i .operand) m) second outputLength m)) _ _ (λ e. record { fits = write-fits i second rom d input m h (not-absent i second e) })
-
-  decoded-fits : (x : Decoded) → length d ≡ 4096 → Fits (decodedPlan x rom d input outputLength m)
-  unfolding decodedPlan instructionPlan
-  decoded-fits (Built i) h =
-      refused-or (notRepeatable m i) NotRepeatable _
-      (λ e. refused-or (secondAbsent m i) ProgramAbsent _ (λ f. pass-fits i (secondWord i rom d m) h))
-  decoded-fits Unbuilt h = record { fits = tt }
-  decoded-fits Nothing h = record { fits = tt }
-
-  fetch-fits : length d ≡ 4096 → Fits (fetchPlan rom d input outputLength m)
-  unfolding fetchPlan
-  fetch-fits h = refused-or (not (programPresent (m .cnf) (m .pc))) ProgramAbsent _ (λ e. decoded-fits (decodedAt rom d m) h)
-
-  pub step-fits : WriteFits (planOf rom d input outputLength m .write) (length d)
-  step-fits = all .fits
-    where
-      all : Fits (planOf rom d input outputLength m)
-      all =
-          rw (stages rom d input outputLength m)
-          (refused-or (not (inRange m)) CellOutOfRange _
-          (λ e.
-          refused-or (not (slicesFit m rom d input outputLength)) SlicesUnfit _
-          (λ f. fetch-fits (slices-fit m rom d input outputLength (not-false _ f) .memories .data-size))))
+  pub step-fits : WriteFits (planOf g d outputLength m .write) (length d)
+  unfolding planOf
+  step-fits = plan-has m _ Fits (tableFor (decodedAt g d m) g d outputLength m) (λ a. tt) (decoded-fits (decodedAt g d m))
 
 -- ---- a run on its way: k steps done, and the rest to come
 abbrev pub later : ℕ → RunOutcome → RunOutcome
 later k r = record { world = r .world; steps = k + r .steps; answer = r .answer }
 
-module _ (rom input : List ℕ) where
-  pub run-begins : (budget : ℕ) (w : World) → later 0 (runOf rom input (budget - 0) w) ≡ runOf rom input budget w
-  run-begins budget w = let e : budget - 0 ≡ budget = omega arith in rw e (ap (λ (n : ℕ). record { world = runOf rom input budget w .world; steps = n; answer = runOf rom input budget w .answer }) (omega arith))
+module _ (g : Given) where
+  pub run-begins : (budget : ℕ) (w : World) → later 0 (runOf g (budget - 0) w) ≡ runOf g budget w
+  run-begins budget w = let e : budget - 0 ≡ budget = omega arith in rw e (ap (λ (n : ℕ). record { world = runOf g budget w .world; steps = n; answer = runOf g budget w .answer }) (omega arith))
 
-  one-of : (n k : ℕ) (w : World) → isDone (stepOf rom input w .answer) ≡ true → later k (runOf rom input (suc n) w) ≡ later (k + 1) (runOf rom input n (stepOf rom input w .world))
+  one-of : (n k : ℕ) (w : World) → isDone (stepOf g w .answer) ≡ true → later k (runOf g (suc n) w) ≡ later (k + 1) (runOf g n (stepOf g w .world))
   unfolding runOf
-  one-of n k w h = rw h (ap (λ (s : ℕ). record { world = runOf rom input n (stepOf rom input w .world) .world; steps = s; answer = runOf rom input n (stepOf rom input w .world) .answer }) (omega arith))
+  one-of n k w h = rw h (ap (λ (s : ℕ). record { world = runOf g n (stepOf g w .world) .world; steps = s; answer = runOf g n (stepOf g w .world) .answer }) (omega arith))
 
-  pub run-goes : (budget k : ℕ) (w : World) → k < budget → isDone (stepOf rom input w .answer) ≡ true
-      → later k (runOf rom input (budget - k) w) ≡ later (k + 1) (runOf rom input (budget - (k + 1)) (stepOf rom input w .world))
+  pub run-goes : (budget k : ℕ) (w : World) → k < budget → isDone (stepOf g w .answer) ≡ true
+      → later k (runOf g (budget - k) w) ≡ later (k + 1) (runOf g (budget - (k + 1)) (stepOf g w .world))
   run-goes budget k w l h =
       let e : budget - k ≡ suc (budget - (k + 1)) = omega arith in
       rw e (one-of (budget - (k + 1)) k w h)
 
-  stop-of : (n k : ℕ) (w : World) → isDone (stepOf rom input w .answer) ≡ false
-      → later k (runOf rom input (suc n) w) ≡ record { world = stepOf rom input w .world; steps = k; answer = stepOf rom input w .answer }
+  stop-of : (n k : ℕ) (w : World) → isDone (stepOf g w .answer) ≡ false
+      → later k (runOf g (suc n) w) ≡ record { world = stepOf g w .world; steps = k; answer = stepOf g w .answer }
   unfolding runOf
-  stop-of n k w h = rw h (ap (λ (s : ℕ). record { world = stepOf rom input w .world; steps = s; answer = stepOf rom input w .answer }) (omega arith))
+  stop-of n k w h = rw h (ap (λ (s : ℕ). record { world = stepOf g w .world; steps = s; answer = stepOf g w .answer }) (omega arith))
 
-  pub run-stops : (budget k : ℕ) (w : World) → k < budget → isDone (stepOf rom input w .answer) ≡ false
-      → later k (runOf rom input (budget - k) w) ≡ record { world = stepOf rom input w .world; steps = k; answer = stepOf rom input w .answer }
+  pub run-stops : (budget k : ℕ) (w : World) → k < budget → isDone (stepOf g w .answer) ≡ false
+      → later k (runOf g (budget - k) w) ≡ record { world = stepOf g w .world; steps = k; answer = stepOf g w .answer }
   run-stops budget k w l h =
       let e : budget - k ≡ suc (budget - (k + 1)) = omega arith in
       rw e (stop-of (budget - (k + 1)) k w h)
 
-  end-of : (k : ℕ) (w : World) → later k (runOf rom input 0 w) ≡ record { world = w; steps = k; answer = checksOf rom (w .«data») input (length (w .output)) (w .m) }
+  end-of : (k : ℕ) (w : World) → later k (runOf g 0 w) ≡ record { world = w; steps = k; answer = checksOf g (w .«data») (length (w .output)) (w .m) }
   unfolding runOf
-  end-of k w = ap (λ (s : ℕ). record { world = w; steps = s; answer = checksOf rom (w .«data») input (length (w .output)) (w .m) }) (omega arith)
+  end-of k w = ap (λ (s : ℕ). record { world = w; steps = s; answer = checksOf g (w .«data») (length (w .output)) (w .m) }) (omega arith)
 
   pub run-ends : (budget k : ℕ) (w : World) → budget ≤ k
-      → later k (runOf rom input (budget - k) w) ≡ record { world = w; steps = k; answer = checksOf rom (w .«data») input (length (w .output)) (w .m) }
+      → later k (runOf g (budget - k) w) ≡ record { world = w; steps = k; answer = checksOf g (w .«data») (length (w .output)) (w .m) }
   run-ends budget k w l =
       let e : budget - k ≡ 0 = omega arith in
       rw e (end-of k w)
@@ -126,13 +84,13 @@ module _ (rom input : List ℕ) where
     pub within : k ≤ budget
     pub data-length : length (w .«data») ≡ length (w₀ .«data»)
     pub output-length : length (w .output) ≡ length (w₀ .output)
-    pub same : later k (runOf rom input (budget - k) w) ≡ runOf rom input budget w₀
+    pub same : later k (runOf g (budget - k) w) ≡ runOf g budget w₀
 
   pub running-begins : (budget : ℕ) (w : World) → Running budget w w 0
   running-begins budget w = record { within = omega arith; data-length = refl; output-length = refl; same = run-begins budget w }
 
   module _ (budget : ℕ) (w₀ w : World) (k : ℕ) (r : Running budget w₀ w k) where
-    pub running-goes : (o : Outcome) → o ≡ stepOf rom input w → k < budget → isDone (o .answer) ≡ true
+    pub running-goes : (o : Outcome) → o ≡ stepOf g w → k < budget → isDone (o .answer) ≡ true
         → length (o .world .«data») ≡ length (w .«data») → length (o .world .output) ≡ length (w .output) → Running budget w₀ (o .world) (k + 1)
     running-goes o e l h dl ol =
         record {
@@ -142,9 +100,9 @@ module _ (rom input : List ℕ) where
           same = rw e (sym (run-goes budget k w l (ap (λ (x : Outcome). isDone (x .answer)) (sym e) ∙ h)) ∙ r .same);
         }
 
-    pub running-stops : (o : Outcome) → o ≡ stepOf rom input w → k < budget → isDone (o .answer) ≡ false
-        → record { world = o .world; steps = k; answer = o .answer } ≡ runOf rom input budget w₀
+    pub running-stops : (o : Outcome) → o ≡ stepOf g w → k < budget → isDone (o .answer) ≡ false
+        → record { world = o .world; steps = k; answer = o .answer } ≡ runOf g budget w₀
     running-stops o e l h = rw e (sym (run-stops budget k w l (ap (λ (x : Outcome). isDone (x .answer)) (sym e) ∙ h)) ∙ r .same)
 
-    pub running-ends : budget ≤ k → record { world = w; steps = k; answer = checksOf rom (w .«data») input (length (w .output)) (w .m) } ≡ runOf rom input budget w₀
+    pub running-ends : budget ≤ k → record { world = w; steps = k; answer = checksOf g (w .«data») (length (w .output)) (w .m) } ≡ runOf g budget w₀
     running-ends l = sym (run-ends budget k w l) ∙ r .same

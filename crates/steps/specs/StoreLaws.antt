@@ -1,7 +1,7 @@
 -- A page that stores a word at its operand's address is one that writes, so that what a step stores lies on the board.
 use mathlib.Core.Path.{_≡_, refl, sym, subst}
 use mathlib.Core.Bool.{Bool, true, false, not, cond, _&&_}
-use mathlib.Core.List.{List, []}
+use mathlib.Core.List.{List}
 use Prim.Native.Nat.{ℕ, _+_, _<_}
 use native.Mathlib.Omega.{arith}
 use lib.ListN.{length}
@@ -38,6 +38,7 @@ use Rattle.pages.specs.Rules.{ruleOf}
 use Rattle.pages.specs.Addressing.{addressOf}
 use Rattle.board.specs.Regions.{dataPresent, moveAllowed}
 use Rattle.board.specs.RegionLaws.{present-below, moves}
+use Rattle.board.specs.Given.{Given}
 use Rattle.steps.specs.declared.Write.{Write}
 use Rattle.steps.specs.declared.Write.the-variants as Write
 use Rattle.steps.specs.Refusals.{accesses, dataAbsent}
@@ -189,7 +190,7 @@ write-fits-for t (Left.Move word) m cursor size f h a = moved-fits (moveAllowed 
 write-fits-for t (Left.Sent word) m cursor size f h a = tt
 
 -- the store of a pass that 6 does not refuse
-pub write-fits : (i : Instruction) (second : ℕ) (rom d input : List ℕ) (m : Machine) → length d ≡ 4096 → dataAbsent (traitsOf i) (addressOf (traitsOf i .operand) m) m ≡ false
-    → WriteFits (passedWrite (traitsOf i) i second rom d input m) (length d)
+pub write-fits : (i : Instruction) (second : ℕ) (g : Given) (d : List ℕ) (m : Machine) → length d ≡ 4096 → dataAbsent (traitsOf i) (addressOf (traitsOf i .operand) m) m ≡ false
+    → WriteFits (passedWrite (traitsOf i) i second g d m) (length d)
 unfolding passedWrite effectOf
-write-fits i second rom d input m h a = write-fits-for (traitsOf i) _ m (m .«output_cursor») (length d) (store-fits i m _ _) h a
+write-fits i second g d m h a = write-fits-for (traitsOf i) _ m (m .«output_cursor») (length d) (store-fits i m _ _) h a

@@ -10,7 +10,7 @@ plan-fetched-requires c κs = search needs
 commit-requires : tie.Need-commit-requires
 commit-requires c κs =
     rw (c .before .before .before .plan-fetched .ensures)
-    (table-fits _ _ _ _ _ _ (c .before .before .before .before .before .before .before .before .before .before .pre .0)
+    (table-fits _ _ _ _ _ (c .before .before .before .before .before .before .before .before .before .before .pre .0)
     (words-fit (c .before .before .before .before .before .before .before .before .before .before .args .rom .now) (λ i. c .before .before .before .before .before .before .before .before .shared-slice-known2 .given i .fits))
     (words-fit (c .before .before .before .before .before .before .before .before .before .before .args .«data» .now) (λ i. c .before .before .before .before .before .before .before .slice-known .given i .fits))
     (c .before .before .before .before .before .before .before .before .before .before .pre .1))
@@ -25,7 +25,7 @@ returns : tie.Need-returns
 unfolding stepOf afterStore
 returns c =
     rw (
-      ← table-plan _ _ _ _ _ _ (c .before .before .before .before .before .before .before .before .before .before .before .before .before .before .before .pre .0)
+      ← table-plan _ _ _ _ _ (c .before .before .before .before .before .before .before .before .before .before .before .before .before .before .before .pre .0)
           (words-fit (c .before .before .before .before .before .before .before .before .before .before .before .before .before .before .before .args .rom .now) (λ i. c .before .before .before .before .before .before .before .before .before .before .before .before .before .shared-slice-known2 .given i .fits))
           (words-fit (c .before .before .before .before .before .before .before .before .before .before .before .before .before .before .before .args .«data» .now) (λ i. c .before .before .before .before .before .before .before .before .before .before .before .before .slice-known .given i .fits))
           (c .before .before .before .before .before .before .before .before .before .before .before .before .before .before .before .pre .1),

@@ -4,6 +4,7 @@ use native.Mathlib.Omega.{arith}
 use mir.Syntax.{w16}
 use borrow.Author.Needs.{needs, elem-fits-field}
 use borrow.Author.Tests.{not-true, not-false}
+use Rattle.board.specs.Given.{given}
 use Rattle.answers.specs.Numbers.{isDone}
 use Rattle.answers.specs.NumberLaws.{done-is}
 use Rattle.steps.specs.StepLaws.{running-stops}
@@ -14,7 +15,7 @@ use Rattle.emulator.proofs.run.Tie as tie
 
 abbrev Inv-loop : tie.InvT-loop
 Inv-loop rom data₀ input output₀ budget kinds n₀ steps₀ «data» output n steps =
-    Going rom input budget (record { m = n₀; «data» = data₀; output = output₀ }) (record { m = n; «data» = «data»; output = output }) steps
+    Going (given rom input) budget (record { m = n₀; «data» = data₀; output = output₀ }) (record { m = n; «data» = «data»; output = output }) steps
 
 abbrev μ-loop : tie.MeasureT-loop
 μ-loop rom data₀ input output₀ budget kinds n₀ steps₀ «data» output n steps = budget - steps
@@ -30,14 +31,14 @@ same-length c = search needs
 
 returns : tie.Need-returns Inv-loop μ-loop
 returns c =
-    rw (c .before .before .check .ensures) (sym (refused-run _ _ _ _ (sym (ap isDone (c .before .before .check .ensures)) ∙ (sym (c .before .is-done .ensures) ∙ not-true _ (c .if1 .taken)))))
+    rw (c .before .before .check .ensures) (sym (refused-run _ _ _ (sym (ap isDone (c .before .before .check .ensures)) ∙ (sym (c .before .is-done .ensures) ∙ not-true _ (c .if1 .taken)))))
 
 kinds-requires : tie.Need-kinds-requires Inv-loop μ-loop
 kinds-requires c κs = tt
 
 loop-holds : tie.Need-loop-holds Inv-loop μ-loop
 loop-holds c =
-    going-begins _ _ _ _
+    going-begins _ _ _
     (sym (c .before .before .before .check .ensures) ∙ done-is _ (sym (c .before .before .is-done .ensures) ∙ not-false _ (c .before .if1 .left)))
     (record {
       acc = search needs;
@@ -59,7 +60,7 @@ slice-aggregate-checked-step : tie.Need-slice-aggregate-checked-step Inv-loop μ
 slice-aggregate-checked-step c = search needs
 
 checked-step-requires : tie.Need-checked-step-requires Inv-loop μ-loop
-checked-step-requires c κs = (c .before .before .before .before .before .kinds .ensures, going-checks _ _ _ _ _ _ (c .before .before .before .before .loop .inv))
+checked-step-requires c κs = (c .before .before .before .before .before .kinds .ensures, going-checks _ _ _ _ _ (c .before .before .before .before .loop .inv))
 
 is-done-requires-2 : tie.Need-is-done-requires-2 Inv-loop μ-loop
 is-done-requires-2 c κs = tt
@@ -72,7 +73,7 @@ loop-less c = search needs
 
 loop-again : tie.Need-loop-again Inv-loop μ-loop
 loop-again c =
-    going-on _ _ _ _ _ _ (c .before .before .before .before .before .before .before .before .before .before .before .before .loop .inv)
+    going-on _ _ _ _ _ (c .before .before .before .before .before .before .before .before .before .before .before .before .loop .inv)
     (stepped (c .before .before .before .before .before .before .before .checked-step .result) (c .before .before .before .before .before .before .before .checked-step .last .1 .1 .1 .0) (c .before .before .before .before .before .before .before .checked-step .last .1 .1 .1 .1 .1 .0))
     (c .before .before .before .before .before .before .before .checked-step .ensures)
     (c .before .before .before .before .before .before .before .before .before .before .before .if2 .left)
@@ -87,7 +88,7 @@ same-length-3 : tie.Need-same-length-3 Inv-loop μ-loop
 same-length-3 c = search needs
 
 returns-2 : tie.Need-returns-2 Inv-loop μ-loop
-returns-2 c = going-ends _ _ _ _ _ _ (c .before .loop .inv) (c .if2 .taken)
+returns-2 c = going-ends _ _ _ _ _ (c .before .loop .inv) (c .if2 .taken)
 
 same-length-4 : tie.Need-same-length-4 Inv-loop μ-loop
 same-length-4 c = search needs
@@ -97,7 +98,7 @@ same-length-5 c = search needs
 
 returns-3 : tie.Need-returns-3 Inv-loop μ-loop
 returns-3 c =
-    running-stops _ _ _ _ _ _ (c .before .before .before .before .before .before .before .before .before .before .before .before .loop .inv .running)
+    running-stops _ _ _ _ _ (c .before .before .before .before .before .before .before .before .before .before .before .before .loop .inv .running)
     (stepped (c .before .before .before .before .before .before .before .checked-step .result) (c .before .before .before .before .before .before .before .checked-step .last .1 .1 .1 .0) (c .before .before .before .before .before .before .before .checked-step .last .1 .1 .1 .1 .1 .0))
     (c .before .before .before .before .before .before .before .checked-step .ensures)
     (c .before .before .before .before .before .before .before .before .before .before .before .if2 .left)

@@ -31,8 +31,8 @@ returns c =
       stack-count = search (needs, c .before .before .before .before .before .before .before .before .before .before .before .before .good .0 .1 .1 .0 .1 .1 .0);
     } in
     ap outcomeOf (c .before .before .before .before .before .run .ensures)
-    ∙ one-step _ _ _ (λ e.
-    going-begins _ _ 1 _ (done-is _ e) sized
+    ∙ one-step _ _ (λ e.
+    going-begins _ 1 _ (done-is _ e) sized
     (words-fit (c .before .before .before .before .before .before .before .before .before .before .before .before .args .rom .now) (λ i. c .before .before .before .before .before .before .before .before .before .before .before .shared-slice-known .given i .fits))
     (words-fit (c .before .before .before .before .before .before .before .before .before .before .before .before .args .input .now) (λ i. c .before .before .before .before .before .before .before .before .before .shared-slice-known2 .given i .fits))
     (words-fit (c .before .before .before .before .before .before .before .before .before .before .before .before .args .«data» .now) (λ i. c .before .before .before .before .before .before .before .before .before .before .slice-known .given i .fits))

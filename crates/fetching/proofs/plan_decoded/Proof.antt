@@ -1,4 +1,6 @@
-use Rattle.steps.specs.Stages.{decodedPlan}
+use Rattle.steps.specs.Pass.{planBy}
+use Rattle.steps.specs.Table.{encodingRows}
+use Rattle.steps.specs.Stages.{decodedPlan, instruction-stages}
 use borrow.Author.Needs.{needs}
 use Rattle.fetching.proofs.plan_decoded.Statement.{statement}
 use Rattle.fetching.proofs.plan_decoded.Tie as tie
@@ -22,15 +24,14 @@ refuse-requires-2 : tie.Need-refuse-requires-2
 refuse-requires-2 c κs = search needs
 
 returns : tie.Need-returns
-unfolding decodedPlan
-returns c = rw (c .plan-instruction .ensures, c .before .before .d .given .1)
+returns c = rw (c .plan-instruction .ensures, c .before .before .d .given .1, instruction-stages)
 
 returns-2 : tie.Need-returns-2
-unfolding decodedPlan
+unfolding decodedPlan encodingRows planBy
 returns-2 c = rw (c .refuse .ensures, c .before .enum-told .given .1)
 
 returns-3 : tie.Need-returns-3
-unfolding decodedPlan
+unfolding decodedPlan encodingRows planBy
 returns-3 c = rw (c .refuse2 .ensures, c .before .enum-told2 .given .1)
 
 pub plan-decoded-spec : {M : Type 1} → statement M

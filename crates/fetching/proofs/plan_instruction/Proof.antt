@@ -1,5 +1,6 @@
 use Rattle.steps.specs.Stages.{instructionPlan}
-use Rattle.steps.specs.Table.{notRepeatable, secondAbsent, secondWord, secondAddress}
+use Rattle.steps.specs.Pass.{planBy}
+use Rattle.steps.specs.Table.{repeatRows, notRepeatable, secondAbsent, secondWord, secondAddress}
 use borrow.Author.Needs.{needs}
 use Rattle.fetching.proofs.plan_instruction.Statement.{statement}
 use Rattle.fetching.proofs.plan_instruction.Tie as tie
@@ -14,7 +15,7 @@ refuse-requires : tie.Need-refuse-requires
 refuse-requires c κs = search needs
 
 returns : tie.Need-returns
-unfolding instructionPlan notRepeatable secondAbsent secondWord secondAddress
+unfolding planBy repeatRows instructionPlan notRepeatable secondAbsent secondWord secondAddress
 returns c = rw (c .refuse .ensures, ← c .before .before .before .traits-of .ensures, ← c .before .before .is-unrepeatable .ensures, c .before .if1 .taken)
 
 wrapped-sum-requires : tie.Need-wrapped-sum-requires
@@ -27,7 +28,7 @@ refuse-requires-2 : tie.Need-refuse-requires-2
 refuse-requires-2 c κs = search needs
 
 returns-2 : tie.Need-returns-2
-unfolding instructionPlan notRepeatable secondAbsent secondWord secondAddress
+unfolding planBy repeatRows instructionPlan notRepeatable secondAbsent secondWord secondAddress
 returns-2 c = rw (c .refuse2 .ensures, ← c .before .before .before .before .before .before .before .traits-of .ensures, ← c .before .before .before .before .before .before .is-unrepeatable .ensures, ← c .before .before .before .wrapped-sum .ensures, ← c .before .before .is-program-absent .ensures, c .before .before .before .before .before .if1 .left, c .before .if2 .taken)
 
 second-word-requires : tie.Need-second-word-requires
@@ -37,7 +38,7 @@ plan-pass-requires : tie.Need-plan-pass-requires
 plan-pass-requires c κs = search needs
 
 returns-3 : tie.Need-returns-3
-unfolding instructionPlan notRepeatable secondAbsent secondWord secondAddress
+unfolding planBy repeatRows instructionPlan notRepeatable secondAbsent secondWord secondAddress
 returns-3 c = rw (c .plan-pass .ensures, c .before .second-word .ensures, ← c .before .before .before .before .before .before .before .before .traits-of .ensures, ← c .before .before .before .before .before .before .before .is-unrepeatable .ensures, ← c .before .before .before .before .wrapped-sum .ensures, ← c .before .before .before .is-program-absent .ensures, c .before .before .before .before .before .before .if1 .left, c .before .before .if2 .left)
 
 pub plan-instruction-spec : {M : Type 1} → statement M

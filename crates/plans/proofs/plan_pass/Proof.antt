@@ -1,4 +1,4 @@
-use Rattle.steps.specs.Pass.{passPlan}
+use Rattle.steps.specs.RefusalLaws.{pass-plan}
 use borrow.Author.Needs.{needs}
 use Rattle.plans.proofs.plan_pass.Statement.{statement}
 use Rattle.plans.proofs.plan_pass.Tie as tie
@@ -16,15 +16,13 @@ perform-requires : tie.Need-perform-requires
 perform-requires c κs = search needs
 
 returns : tie.Need-returns
-unfolding passPlan
-returns c = rw (c .perform .ensures, ← c .before .before .before .before .address-of .ensures, ← c .before .before .before .pass-refusal .ensures, ← c .before .before .is-done .ensures, c .before .if1 .taken)
+returns c = rw (c .perform .ensures, pass-plan, ← c .before .before .before .before .address-of .ensures, ← c .before .before .before .pass-refusal .ensures, ← c .before .before .is-done .ensures, c .before .if1 .taken)
 
 refuse-requires : tie.Need-refuse-requires
 refuse-requires c κs = search needs
 
 returns-2 : tie.Need-returns-2
-unfolding passPlan
-returns-2 c = rw (c .refuse .ensures, ← c .before .before .before .before .address-of .ensures, ← c .before .before .before .pass-refusal .ensures, ← c .before .before .is-done .ensures, c .before .if1 .left)
+returns-2 c = rw (c .refuse .ensures, pass-plan, ← c .before .before .before .before .address-of .ensures, ← c .before .before .before .pass-refusal .ensures, ← c .before .before .is-done .ensures, c .before .if1 .left)
 
 pub plan-pass-spec : {M : Type 1} → statement M
 plan-pass-spec =

@@ -1,3 +1,4 @@
+use Rattle.board.specs.Given.{given}
 use Rattle.desktop.specs.CallLaws.{step-refused, step-made}
 use borrow.Author.Tests.{not-true, not-false}
 use mathlib.Core.Path.{sym, _∙_}
@@ -15,7 +16,7 @@ same-length : tie.Need-same-length
 same-length c = search needs
 
 returns : tie.Need-returns
-returns c = step-refused (c .before .before .before .before .before .before .before .before .before .before .args .rom .now) (c .before .before .before .before .before .before .before .before .before .before .args .input .now) (c .before .before .before .before .before .before .before .before .before .before .args .cells .now) (c .before .before .before .before .before .before .before .before .before .before .args .«data» .now) (c .before .before .before .before .before .before .before .before .before .before .args .output .now) (sym (c .before .before .before .cells-pass .ensures) ∙ not-true _ (c .before .before .if1 .taken)) (c .cells-number .ensures)
+returns c = step-refused (given (c .before .before .before .before .before .before .before .before .before .before .args .rom .now) (c .before .before .before .before .before .before .before .before .before .before .args .input .now)) (c .before .before .before .before .before .before .before .before .before .before .args .cells .now) (c .before .before .before .before .before .before .before .before .before .before .args .«data» .now) (c .before .before .before .before .before .before .before .before .before .before .args .output .now) (sym (c .before .before .before .cells-pass .ensures) ∙ not-true _ (c .before .before .if1 .taken)) (c .cells-number .ensures)
 
 machine-of-requires : tie.Need-machine-of-requires
 machine-of-requires c κs = search needs
@@ -36,7 +37,7 @@ same-length-4 : tie.Need-same-length-4
 same-length-4 c = search needs
 
 returns-2 : tie.Need-returns-2
-returns-2 c = step-made (c .before .before .before .before .before .before .before .before .before .before .before .before .before .before .before .before .before .before .before .before .before .before .args .rom .now) (c .before .before .before .before .before .before .before .before .before .before .before .before .before .before .before .before .before .before .before .before .before .before .args .input .now) (c .before .before .before .before .before .before .before .before .before .before .before .before .before .before .before .before .before .before .before .before .before .before .args .cells .now) (c .before .before .before .before .before .before .before .before .before .before .before .before .before .before .before .before .before .before .before .before .before .before .args .«data» .now) (c .before .before .before .before .before .before .before .before .before .before .before .before .before .before .before .before .before .before .before .before .before .before .args .output .now) (sym (c .before .before .before .before .before .before .before .before .before .before .before .before .before .before .before .cells-pass .ensures) ∙ not-false _ (c .before .before .before .before .before .before .before .before .before .before .before .before .before .before .if1 .left)) (c .before .before .before .before .before .before .before .before .before .before .before .before .machine-of .ensures) _ (c .before .before .before .before .before .before .before .before .before .step .ensures) (c .before .before .put-step .ensures .1) (c .before .before .put-step .ensures .0)
+returns-2 c = step-made (given (c .before .before .before .before .before .before .before .before .before .before .before .before .before .before .before .before .before .before .before .before .before .before .args .rom .now) (c .before .before .before .before .before .before .before .before .before .before .before .before .before .before .before .before .before .before .before .before .before .before .args .input .now)) (c .before .before .before .before .before .before .before .before .before .before .before .before .before .before .before .before .before .before .before .before .before .before .args .cells .now) (c .before .before .before .before .before .before .before .before .before .before .before .before .before .before .before .before .before .before .before .before .before .before .args .«data» .now) (c .before .before .before .before .before .before .before .before .before .before .before .before .before .before .before .before .before .before .before .before .before .before .args .output .now) (sym (c .before .before .before .before .before .before .before .before .before .before .before .before .before .before .before .cells-pass .ensures) ∙ not-false _ (c .before .before .before .before .before .before .before .before .before .before .before .before .before .before .if1 .left)) (c .before .before .before .before .before .before .before .before .before .before .before .before .machine-of .ensures) _ (c .before .before .before .before .before .before .before .before .before .step .ensures) (c .before .before .put-step .ensures .1) (c .before .before .put-step .ensures .0)
 
 pub crowmitten-step-spec : {M : Type 1} → statement M
 crowmitten-step-spec =
