@@ -10,7 +10,6 @@ use steps::Plan;
 use steps::Write;
 ghost use mathlib.Core.Path.{_≡_};
 ghost use mathlib.Core.Bool.{not, _&&_};
-ghost use lib.Dec.{ltb};
 ghost use Rattle.board.specs.Regions.{dataPresent, programPresent};
 ghost use Rattle.board.specs.Slices.{portSpent};
 ghost use Rattle.steps.specs.Pass.{refused};
@@ -67,25 +66,6 @@ fn is_present(cnf: u8, address: u32) -> bool
     false
 }
 
-// Asked only where the data word is read or written.
-fn is_above(accessed: bool, address: u32) -> bool
-    ensures { λ r. ⌜ r ≡ (accessed && ltb 65535 address) ⌝ }
-{
-    if accessed {
-        return 65535 < address;
-    }
-    false
-}
-
-fn is_data_absent(accessed: bool, cnf: u8, address: u32) -> bool
-    ensures { λ r. ⌜ r ≡ (accessed && not (dataPresent cnf address)) ⌝ }
-{
-    if accessed {
-        return !is_present(cnf, address);
-    }
-    false
-}
-
 // Of a second word or a table word, asked only where there is one. Both places are asked at once: were it `program_present`, the compiler would
 // ask the first of them in every step.
 pub fn is_program_absent(needed: bool, cnf: u8, at: u16) -> bool
@@ -118,11 +98,13 @@ fn operand_refusal(t: Traits, address: u32, m: Machine) -> Answer
     if is_wrong_port(port) {
         return Answer::WrongPort;
     }
-    if is_above(accessed, address) {
-        return Answer::AddressAbove;
-    }
-    if is_data_absent(accessed, m.cnf, address) {
-        return Answer::DataAbsent;
+    if accessed {
+        if 65535 < address {
+            return Answer::AddressAbove;
+        }
+        if !is_present(m.cnf, address) {
+            return Answer::DataAbsent;
+        }
     }
     Answer::Done
 }
