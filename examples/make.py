@@ -127,7 +127,7 @@ EXAMPLES = {
         0xFF80, 0x0001,  # B 0001h
     ], 65535),
     'refused-3': run_file([0xCA01, 0x00B0], 5),   # LACK 1; an indirect field of 011 is in no encoding
-    'refused-4': run_file([0xCA01, 0xCE1F], 5),   # LACK 1; IDLE is published and not in the base
+    'refused-4': run_file([0xCA01, 0xCE1F], 5),   # LACK 1; IDLE is published and not built
     'refused-5': run_file([0xFF80, 0x1000], 5),   # B 1000h: past the ROM
     'refused-6': run_file([0xC801, 0x2000], 5),   # LDPK 1; LAC 0: 0080h is absent
     'refused-7': run_file([0xCB01, 0xCA01], 5),   # RPTK 1; LACK is not repeatable

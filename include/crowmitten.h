@@ -7,7 +7,7 @@
  * slices or numbers that are lent to one call overlap unless both are const.
  *
  * Every function returns an answer of the table below. A refusal changes no
- * cell, no memory and no port, and the numbers that it hands out are 0; only a
+ * cell, no memory and no port, and the numbers that it hands out are 0. Only a
  * run keeps, and counts, the steps that were done before the refused one.
  */
 #ifndef CROWMITTEN_H
@@ -25,7 +25,7 @@ enum crowmitten_answer {
     CROWMITTEN_CELL_OUT_OF_RANGE = 1, /* a cell is outside its range */
     CROWMITTEN_SLICES_UNFIT = 2,      /* a slice is not of its size, or a cursor is past its slice */
     CROWMITTEN_NO_ENCODING = 3,       /* the word at PC is in no encoding */
-    CROWMITTEN_NOT_BUILT = 4,       /* an instruction that is not built */
+    CROWMITTEN_NOT_BUILT = 4,         /* a published instruction that is not built */
     CROWMITTEN_PROGRAM_ABSENT = 5,    /* no such program address on the board */
     CROWMITTEN_DATA_ABSENT = 6,       /* no such data address on the board */
     CROWMITTEN_NOT_REPEATABLE = 7,    /* RPTC above 0, and the instruction cannot be repeated */
@@ -50,7 +50,7 @@ enum crowmitten_cell {
     CROWMITTEN_ARB = 14,   /* 0 to 7 */
     CROWMITTEN_DP = 15,    /* 0 to 511 */
     CROWMITTEN_PM = 16,    /* 0 to 3 */
-    CROWMITTEN_OV = 17,    /* 0 or 1, as the five after it */
+    CROWMITTEN_OV = 17,    /* 0 or 1, like the five after it */
     CROWMITTEN_OVM = 18,
     CROWMITTEN_SXM = 19,
     CROWMITTEN_C = 20,
@@ -70,8 +70,8 @@ enum {
 };
 
 /*
- * Where a call takes cells: 2 if cells_length is not 34, then, but for reset,
- * 1 if a number is outside its cell's range, then what stands beside the
+ * A call that takes cells returns 2 if cells_length is not 34, then, except for
+ * reset, 1 if a number is outside its cell's range, then what stands beside the
  * function.
  */
 
@@ -104,7 +104,7 @@ uint32_t crowmitten_words_sent(const uint32_t *cells, size_t cells_length,
 /*
  * The fetch window, the program words from address to the end of its region,
  * is the *count words from *from on in rom (*memory 1) or in data (*memory 2):
- * 0, 1, 2 or 5. Where refused, *memory is 0.
+ * 0, 1, 2 or 5. If refused, *memory is 0.
  */
 uint32_t crowmitten_window(const uint32_t *cells, size_t cells_length,
                            const uint16_t *rom, size_t rom_length,
