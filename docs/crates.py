@@ -75,6 +75,13 @@ def columns(uses):
     return column
 
 
+def line(x, y, to_x, to_y):
+    """From a crate to one that uses it; between the rows, where other columns stand between them."""
+    if to_x - x == BETWEEN:
+        return f'<path d="M{x} {y}L{to_x} {to_y}"/>'
+    return f'<path d="M{x} {y}L{x + BETWEEN} {y + ROW // 2}H{to_x - BETWEEN}L{to_x} {to_y}"/>'
+
+
 def layer_picture(name, words, stands_on, uses, top, width):
     """The elements of one layer, and its height."""
     column, count, left, middle = columns(uses), {}, {}, {}
@@ -89,7 +96,7 @@ def layer_picture(name, words, stands_on, uses, top, width):
            f'<text x="12" y="{top + 40}">{escape(words)}</text>']
     if stands_on:
         out.append(f'<text x="12" y="{top + 56}">on {escape(", ".join(stands_on))}</text>')
-    out += [f'<path d="M{left[u] + COLUMN - BETWEEN} {middle[u]}L{left[c]} {middle[c]}"/>' for c in uses for u in uses[c]]
+    out += [line(left[u] + COLUMN - BETWEEN, middle[u], left[c], middle[c]) for c in uses for u in uses[c]]
     for crate in uses:
         out.append(f'<rect x="{left[crate]}" y="{middle[crate] - BOX // 2}" width="{COLUMN - BETWEEN}" height="{BOX}" class="crate"/>')
         out.append(f'<text x="{left[crate] + 8}" y="{middle[crate] + 4}">{escape(crate)}</text>')
