@@ -1,7 +1,7 @@
 -- Decoding an instruction's word gives the instruction back.
 use mathlib.Core.Path.{_≡_, refl, sym, subst, _∙_, ap}
 use mathlib.Core.Bool.{Bool, true, false, not}
-use mathlib.Core.List.{List, [], _∷_, _++_, map}
+use mathlib.Core.List.{List, [], _∷_, map}
 use Prim.Native.Nat.{ℕ, zero, suc, _/_, _%_, _<_}
 use Prim.Native.String.{String}
 use native.Mathlib.Nat.{le-of-suc-le-suc, not-suc-le-zero}
@@ -11,18 +11,18 @@ use lib.ListN.{length}
 use lib.Text.{eqt→eq}
 use Rattle.instructions.specs.Every.{both-left, both-right, all, by-order}
 use Rattle.instructions.specs.Encoding.{Page, page, pick, both, fits, has, means, lowFits, addressModeOf, indirectOf}
-use Rattle.instructions.specs.Pages.{basePages, otherPages, pages}
-use Rattle.instructions.specs.Decode.{decodeOf}
+use Rattle.instructions.specs.Pages.{pages}
+use Rattle.instructions.specs.Decode.{decodeOf, isBuilt}
 use Rattle.instructions.specs.Places.{placeIn, meaningIn, meaningAt, decode-at-place}
+use Rattle.instructions.specs.Past.{shared-unbuilt, past-pages}
 use Rattle.apart.specs.Apart.{own-meaning}
 use Rattle.apart.specs.Having.{hasAt}
-use Rattle.meanings.specs.Past.{past-base, past-pages}
 use Rattle.instructions.specs.declared.Instruction.{Instruction}
 use Rattle.instructions.specs.declared.Decoded.{Decoded}
 use Rattle.instructions.specs.declared.Decoded.the-variants.{Built, Unbuilt, Nothing}
 use Rattle.encodings.specs.Encode.{text, isIndirect, addressBits, indirectBits, wordOf, encodeOf}
 use Rattle.encodings.specs.Spelled.{framed, everyRow, all-framed, read, word-back}
-use Rattle.encodings.specs.Rows.{fields, isOperand, isBranchPage, unread, plain-rows, operand-rows, branch-rows, same-rows}
+use Rattle.encodings.specs.Rows.{fields, isOperand, isBranchPage, unread, readWhere, readBuilt, plain-rows, operand-rows, branch-rows, same-rows}
 use Rattle.encodings.specs.Cleared.{cleared, lowTest, low-test, operandFields, branchOperand, operands-tested, branches-tested, same-operand, clearedWord, cleared-lt, cleared-low, cleared-upper}
 
 -- a word of a page that decodes to what w decodes to there, and that is the word of it
@@ -37,15 +37,16 @@ both-join : (a b : Bool) → T a → T b → T (both a b)
 both-join true b s t = t
 both-join false b s t = s
 
-keep : (r : Page) (v w : ℕ) → T (framed r) → v < 65536 → T (has r v) → means r v ≡ means r w → fields (means r v) ≡ read r v → Kept r w
+keep : (r : Page) (v w : ℕ) (i : Instruction) → T (framed r) → means r w ≡ Built i → v < 65536 → T (has r v) → means r v ≡ means r w
+    → fields (means r v) ≡ readBuilt r v → Kept r w
 unfolding lowFits
-keep r v w f h o m e =
+keep r v w i f b h o m e =
     record {
       v = v;
       below = h;
       owned = o;
       same = m;
-      spelt = ap wordOf e ∙ word-back r v f h (both-left (fits (r .upper) 8 (v / 256)) (lowFits (r .lower) (v % 256)) o)
+      spelt = ap wordOf (e ∙ ap (λ (d : Decoded). readWhere d r v) (m ∙ b)) ∙ word-back r v f h (both-left (fits (r .upper) 8 (v / 256)) (lowFits (r .lower) (v % 256)) o)
           (both-left (fits (r .lower) 8 (v % 256)) _ (both-right (fits (r .upper) 8 (v / 256)) (lowFits (r .lower) (v % 256)) o));
     }
 
@@ -89,28 +90,28 @@ indirectBits-is v low e t =
     rw e (x ∙ omega arith)
 
 -- what the lists of rows say at one row: o and b are whether it takes an operand or is a branch
-row-kept : (r : Page) (w : ℕ) (o b : Bool) → (T o → r .lower ≡ "IDDD DDDD") → (T b → r .lower ≡ "1DDD DDDD") → T (framed r)
-    → w < 65536 → T (has r w)
-    → pick o unread (pick b unread (fields (means r w))) ≡ pick o unread (pick b unread (read r w))
+row-kept : (r : Page) (w : ℕ) (i : Instruction) (o b : Bool) → (T o → r .lower ≡ "IDDD DDDD") → (T b → r .lower ≡ "1DDD DDDD") → T (framed r)
+    → means r w ≡ Built i → w < 65536 → T (has r w)
+    → pick o unread (pick b unread (fields (means r w))) ≡ pick o unread (pick b unread (readBuilt r w))
     → pick o (means r (clearedWord w)) (pick b (means r (clearedWord w)) Nothing) ≡ pick o (means r w) (pick b (means r w) Nothing)
     → (isIndirect (addressModeOf (clearedWord w % 256)) ≡ clearedWord w / 128 % 2
     → addressBits (addressModeOf (clearedWord w % 256)) ≡ clearedWord w / 1 % 128
-    → pick o (fields (means r (clearedWord w))) unread ≡ pick o (read r (clearedWord w)) unread)
+    → pick o (fields (means r (clearedWord w))) unread ≡ pick o (readBuilt r (clearedWord w)) unread)
     → (indirectBits (indirectOf (clearedWord w % 256)) ≡ clearedWord w / 1 % 128
-    → pick b (fields (means r (clearedWord w))) unread ≡ pick b (read r (clearedWord w)) unread)
+    → pick b (fields (means r (clearedWord w))) unread ≡ pick b (readBuilt r (clearedWord w)) unread)
     → Kept r w
-row-kept r w true b ol bl f h t plain same operands branch =
+row-kept r w i true b ol bl f m h t plain same operands branch =
     let p : T (has r (clearedWord w)) × T (operandFields (cleared (w % 256)))
     = low-passes r w "IDDD DDDD" operandFields operands-tested (ol tt) t in
-    keep r (clearedWord w) w f (omega (arith, cleared-lt w)) (p .0) same
+    keep r (clearedWord w) w i f m (omega (arith, cleared-lt w)) (p .0) same
     (operands (isIndirect-is (clearedWord w) (cleared (w % 256)) (cleared-low w) (p .1))
     (addressBits-is (clearedWord w) (cleared (w % 256)) (cleared-low w) (p .1)))
-row-kept r w false true ol bl f h t plain same operands branch =
+row-kept r w i false true ol bl f m h t plain same operands branch =
     let p : T (has r (clearedWord w)) × T (branchOperand (cleared (w % 256)))
     = low-passes r w "1DDD DDDD" branchOperand branches-tested (bl tt) t in
-    keep r (clearedWord w) w f (omega (arith, cleared-lt w)) (p .0) same
+    keep r (clearedWord w) w i f m (omega (arith, cleared-lt w)) (p .0) same
     (branch (indirectBits-is (clearedWord w) (cleared (w % 256)) (cleared-low w) (p .1)))
-row-kept r w false false ol bl f h t plain same operands branch = keep r w w f h t refl plain
+row-kept r w i false false ol bl f m h t plain same operands branch = keep r w w i f m h t refl plain
 
 -- the row at a place
 abbrev rowAt : List Page → ℕ → Page
@@ -137,15 +138,15 @@ same-at f g [] p h e = absurd (not-suc-le-zero h)
 same-at f g (r ∷ rs) zero h e = ap (headOr (f r)) e
 same-at f g (r ∷ rs) (suc p) h e = same-at f g rs p (le-of-suc-le-suc h) (ap rest e)
 
-has-at : (rs qs : List Page) (p w : ℕ) → p < length rs → hasAt (rs ++ qs) p w ≡ has (rowAt rs p) w
-has-at [] qs p w h = absurd (not-suc-le-zero h)
-has-at (r ∷ rs) qs zero w h = refl
-has-at (r ∷ rs) qs (suc p) w h = has-at rs qs p w (le-of-suc-le-suc h)
+has-at : (rs : List Page) (p w : ℕ) → p < length rs → hasAt rs p w ≡ has (rowAt rs p) w
+has-at [] p w h = absurd (not-suc-le-zero h)
+has-at (r ∷ rs) zero w h = refl
+has-at (r ∷ rs) (suc p) w h = has-at rs p w (le-of-suc-le-suc h)
 
-means-at : (rs qs : List Page) (p w : ℕ) → p < length rs → meaningIn (rs ++ qs) p w ≡ means (rowAt rs p) w
-means-at [] qs p w h = absurd (not-suc-le-zero h)
-means-at (r ∷ rs) qs zero w h = refl
-means-at (r ∷ rs) qs (suc p) w h = means-at rs qs p w (le-of-suc-le-suc h)
+means-at : (rs : List Page) (p w : ℕ) → p < length rs → meaningIn rs p w ≡ means (rowAt rs p) w
+means-at [] p w h = absurd (not-suc-le-zero h)
+means-at (r ∷ rs) zero w h = refl
+means-at (r ∷ rs) (suc p) w h = means-at rs p w (le-of-suc-le-suc h)
 
 place-has : (rs : List Page) (w : ℕ) → placeIn rs w < length rs → T (hasAt rs (placeIn rs w) w)
 place-has [] w h = absurd (not-suc-le-zero h)
@@ -156,35 +157,29 @@ place-has (r ∷ rs) w h = go (has r w) refl h (place-has rs w)
     go true e h k = subst (λ (x : Bool). T x) (sym e) tt
     go false e h k = k (le-of-suc-le-suc h)
 
-kept-at : (p w : ℕ) → p < 75 → w < 65536 → T (has (rowAt basePages p) w) → Kept (rowAt basePages p) w
-kept-at p w l h t =
-    let n : p < length basePages = l in
-    let r : Page = rowAt basePages p in
+kept-at : (p w : ℕ) (i : Instruction) → p < 133 → means (rowAt pages p) w ≡ Built i → w < 65536 → T (has (rowAt pages p) w) → Kept (rowAt pages p) w
+kept-at p w i l m h t =
+    let n : p < length pages = l in
+    let r : Page = rowAt pages p in
     let v : ℕ = clearedWord w in
     let lv : v % 256 ≡ cleared (w % 256) = cleared-low w in
-    row-kept r w (isOperand r) (isBranchPage r) (eqt→eq (r .lower) "IDDD DDDD") (eqt→eq (r .lower) "1DDD DDDD")
-    (every-at framed basePages p n all-framed) h t
-    (same-at (λ q. pick (isOperand q) unread (pick (isBranchPage q) unread (fields (means q w)))) (λ q. pick (isOperand q) unread (pick (isBranchPage q) unread (read q w))) basePages p n (plain-rows w))
-    (same-at (λ q. pick (isOperand q) (means q v) (pick (isBranchPage q) (means q v) Nothing)) (λ q. pick (isOperand q) (means q w) (pick (isBranchPage q) (means q w) Nothing)) basePages p n
+    row-kept r w i (isOperand r) (isBranchPage r) (eqt→eq (r .lower) "IDDD DDDD") (eqt→eq (r .lower) "1DDD DDDD")
+    (every-at framed pages p n all-framed) m h t
+    (same-at (λ q. pick (isOperand q) unread (pick (isBranchPage q) unread (fields (means q w)))) (λ q. pick (isOperand q) unread (pick (isBranchPage q) unread (readBuilt q w))) pages p n (plain-rows w))
+    (same-at (λ q. pick (isOperand q) (means q v) (pick (isBranchPage q) (means q v) Nothing)) (λ q. pick (isOperand q) (means q w) (pick (isBranchPage q) (means q w) Nothing)) pages p n
     (same-rows w v (cleared-upper w) (ap addressModeOf lv ∙ same-operand (w % 256) .0) (ap indirectOf lv ∙ same-operand (w % 256) .1)))
-    (λ a b. same-at (λ q. pick (isOperand q) (fields (means q v)) unread) (λ q. pick (isOperand q) (read q v) unread) basePages p n (operand-rows v a b))
-    (λ a. same-at (λ q. pick (isBranchPage q) (fields (means q v)) unread) (λ q. pick (isBranchPage q) (read q v) unread) basePages p n (branch-rows v a))
-
-isBuilt : Decoded → Bool
-isBuilt (Built i) = true
-isBuilt Unbuilt = false
-isBuilt Nothing = false
+    (λ a b. same-at (λ q. pick (isOperand q) (fields (means q v)) unread) (λ q. pick (isOperand q) (readBuilt q v) unread) pages p n (operand-rows v a b))
+    (λ a. same-at (λ q. pick (isBranchPage q) (fields (means q v)) unread) (λ q. pick (isBranchPage q) (readBuilt q v) unread) pages p n (branch-rows v a))
 
 not-built : (d : Decoded) (i : Instruction) → d ≡ Built i → T (not (isBuilt d)) → ⊥
-unfolding isBuilt
 not-built d i e t = subst (λ (x : Decoded). T (not (isBuilt x))) e t
 
 -- Decoding the word of an instruction that some word decodes to gives that instruction.
 pub decode-encode : (w : ℕ) (i : Instruction) → w < 65536 → decodeOf w ≡ Built i → decodeOf (encodeOf i) ≡ Built i
-unfolding isBuilt meaningAt encodeOf fields
+unfolding meaningAt encodeOf fields
 decode-encode w i h e =
-    by-order p 75 base
-    (λ a. by-order p 133 (λ b. absurd (not-built Unbuilt i (sym (past-base p w a b) ∙ m) tt))
+    by-order p 130 own
+    (λ a. by-order p 133 (λ b. absurd (not-built Unbuilt i (sym (shared-unbuilt p w a b) ∙ m) tt))
     (λ b. absurd (not-built Nothing i (sym (past-pages p w b) ∙ m) tt)))
   where
     p : ℕ
@@ -193,16 +188,17 @@ decode-encode w i h e =
     m : meaningAt (placeIn pages w) w ≡ Built i
     m = sym (decode-at-place w) ∙ e
 
-    base : placeIn pages w < 75 → decodeOf (encodeOf i) ≡ Built i
-    base l =
-        let r : Page = rowAt basePages (placeIn pages w) in
-        let t : T (has r w)
-        = subst (λ (b : Bool). T b) (has-at basePages otherPages (placeIn pages w) w l) (place-has pages w (omega arith)) in
-        let k : Kept r w = kept-at (placeIn pages w) w l h t in
-        let q : means r (k .v) ≡ Built i = k .same ∙ sym (means-at basePages otherPages (placeIn pages w) w l) ∙ m in
+    own : placeIn pages w < 130 → decodeOf (encodeOf i) ≡ Built i
+    own l =
+        let r : Page = rowAt pages (placeIn pages w) in
+        let n : placeIn pages w < 133 = omega arith in
+        let t : T (has r w) = subst (λ (b : Bool). T b) (has-at pages (placeIn pages w) w n) (place-has pages w n) in
+        let b : means r w ≡ Built i = sym (means-at pages (placeIn pages w) w n) ∙ m in
+        let k : Kept r w = kept-at (placeIn pages w) w i n b h t in
+        let q : means r (k .v) ≡ Built i = k .same ∙ b in
         let s : encodeOf i ≡ k .v = ap (λ (d : Decoded). wordOf (fields d)) (sym q) ∙ k .spelt in
         ap decodeOf s
-        ∙ own-meaning (placeIn pages w) (k .v) (k .below) (omega arith)
-        (subst (λ (b : Bool). T b) (sym (has-at basePages otherPages (placeIn pages w) (k .v) l)) (k .owned))
-        ∙ means-at basePages otherPages (placeIn pages w) (k .v) l
+        ∙ own-meaning (placeIn pages w) (k .v) (k .below) l
+        (subst (λ (b : Bool). T b) (sym (has-at pages (placeIn pages w) (k .v) n)) (k .owned))
+        ∙ means-at pages (placeIn pages w) (k .v) n
         ∙ q

@@ -4,7 +4,7 @@ use Prim.Native.Nat.{ℕ, zero, suc, _+_, _-_, _*_, _/_, _%_, _^_}
 use Prim.Native.String.{String, _++_}
 use lib.Text.{eqt}
 use Rattle.instructions.specs.Encoding.{Page, pick, printedAt, lowestOf}
-use Rattle.instructions.specs.Pages.{basePages}
+use Rattle.instructions.specs.Pages.{pages}
 use Rattle.dma.specs.declared.Modification.{Modification}
 use Rattle.dma.specs.declared.Modification.the-variants.{None, Minus, Plus, MinusReversed, MinusIndex, PlusIndex, PlusReversed}
 use Rattle.dma.specs.declared.NextArp.{NextArp}
@@ -55,7 +55,7 @@ printed (r ∷ rs) n = pick (eqt (r .name) n) (text r) (printed rs n)
 
 -- the word of the page of a name, with these numbers for its letters
 unfoldable pub wordOf : String × List (String × ℕ) → ℕ
-wordOf page = bitsAfter (printed basePages (page .0)) (letterNumber (page .1)) 0 16
+wordOf page = bitsAfter (printed pages (page .0)) (letterNumber (page .1)) 0 16
 
 -- Bits 6 to 4 of an indirect operand (Table 4-1, 4-6).
 unfoldable pub modificationBits : Modification → ℕ

@@ -11,7 +11,7 @@ use lib.Pow.{shr-shr}
 use borrow.Author.Tests.{lt-ltb, le-ltb}
 use Rattle.instructions.specs.Every.{both-left, both-right, all, all-at, by-order}
 use Rattle.instructions.specs.Encoding.{Page, pick, both, printedAt, allows, fits, widthOf, lowestOf, under, has}
-use Rattle.instructions.specs.Pages.{basePages}
+use Rattle.instructions.specs.Pages.{pages}
 use Rattle.encodings.specs.Encode.{bitOf, bitsAfter, text, letterNumber, printed, wordOf}
 use Rattle.encodings.specs.Bits.{bits-after, bit-of-low, bit-of-field}
 
@@ -57,13 +57,13 @@ framedAt r j =
 
 -- Test: every bit is so, and the page's name is its own.
 pub framed : Page → Bool
-framed r = both (all (framedAt r) 4 0) (eqt (printed basePages (r .name)) (text r))
+framed r = both (all (framedAt r) 4 0) (eqt (printed pages (r .name)) (text r))
 
 unfoldable pub everyRow : (Page → Bool) → List Page → Bool
 everyRow f [] = true
 everyRow f (r ∷ rs) = both (f r) (everyRow f rs)
 
-pub all-framed : T (everyRow framed basePages)
+pub all-framed : T (everyRow framed pages)
 unfolding everyRow framed framedAt letters
 all-framed = tt
 
@@ -101,11 +101,11 @@ word-back r w f h u l =
     let z : 0 ≡ w / 2 ^ 16 = omega arith in
     let t : String = text r in
     let v : String → ℕ = letterNumber (numbered (under t 16 w) (letters t 16)) in
-    let e : printed basePages (r .name) ≡ t = eqt→eq (printed basePages (r .name)) t (both-right (all (framedAt r) 4 0) (eqt (printed basePages (r .name)) t) f) in
+    let e : printed pages (r .name) ≡ t = eqt→eq (printed pages (r .name)) t (both-right (all (framedAt r) 4 0) (eqt (printed pages (r .name)) t) f) in
     ap (λ (s : String). bitsAfter s v 0 16) e
     ∙ ap (λ (n : ℕ). bitsAfter t v n 16) z
     ∙ bits-after t v w 16
-    (λ j o. bit j o (all-at (framedAt r) 4 0 j (both-left (all (framedAt r) 4 0) (eqt (printed basePages (r .name)) t) f) (omega arith) (omega arith)))
+    (λ j o. bit j o (all-at (framedAt r) 4 0 j (both-left (all (framedAt r) 4 0) (eqt (printed pages (r .name)) t) f) (omega arith) (omega arith)))
   where
     bit : (j : ℕ) → j < 16 → T (framedAt r j) → bitOf (text r) (letterNumber (numbered (under (text r) 16 w) (letters (text r) 16))) j ≡ w / 2 ^ j % 2
     bit j o t =

@@ -111,9 +111,9 @@ pub record Page : Type 0 where
 abbrev pub page : String → String → String → ((String → ℕ) → ℕ → Decoded) → Page
 page n u l m = record { name = n; upper = u; lower = l; meaning = m }
 
--- a page that is not built
-abbrev pub other : String → String → String → Page
-other n u l = page n u l (λ f low. Unbuilt)
+-- a page that is not built: its words are published, whatever their fields
+abbrev pub unbuilt : String → String → String → Page
+unbuilt n u l = page n u l (λ f low. Unbuilt)
 
 -- what a page makes of a word
 abbrev pub means : Page → ℕ → Decoded

@@ -3,3 +3,4 @@ pub mod Pages
 pub mod Decode
 pub mod Every
 pub mod Places
+pub mod Past

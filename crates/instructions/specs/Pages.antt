@@ -1,6 +1,8 @@
--- The 133 pages of section 4.3, one entry for each: the bits as the page (or Table 4-4) prints them, and what the page makes of them.
+-- The 133 pages of section 4.3, one row for each: the bits as the page (or Table 4-4) prints them, and what the page makes of them.
+-- A page's place in the list, from 0 on, is its number for good: the decoder's tables hold these numbers. Whether a page is built is the
+-- mark of its row, `page` or `unbuilt`; a page that is built later stands where it stood.
 use mathlib.Core.List.{List, [], _∷_, _++_}
-use Rattle.instructions.specs.Encoding.{Page, page, other, addressModeOf, indirectOf}
+use Rattle.instructions.specs.Encoding.{Page, page, unbuilt, addressModeOf, indirectOf}
 use Rattle.instructions.specs.declared.Accumulator.the-variants.{Add, Sub, Lac, Addh, Adds, Subh, Subs, Subc, Zalh, Zals, And, Or, Xor, Sacl, Sach, Lack, Addk, Subk, Cmpl, Neg, Abs, Sfl, Sfr}
 use Rattle.instructions.specs.declared.Multiplier.the-variants.{Lt, Lta, Ltp, Ltd, Lts, Mpy, Mpya, Mpys, Sqra, Sqrs, Mac, Macd, Spl, Sph, Mpyk, Pac, Apac, Spac, Spm}
 use Rattle.instructions.specs.declared.Auxiliary.the-variants.{Lar, Sar, Mar, Ldp, Lark, Adrk, Sbrk, Ldpk}
@@ -9,7 +11,7 @@ use Rattle.instructions.specs.declared.Transfers.the-variants.{Dmov, In,
 use Rattle.instructions.specs.declared.Modes.the-variants.{Rpt, Rptk, Sovm, Rovm, Ssxm, Rsxm, Cnfd, Cnfp, Push, Pop}
 use Rattle.instructions.specs.Encoding.{accumulator, multiplier, auxiliary, branches, transfers, modes}
 
--- The base: the accumulator.
+-- The base: the accumulator. Places 0 to 22.
 abbrev pub accumulatorPages : List Page
 accumulatorPages =
     page "ADD" "0000 SSSS" "IDDD DDDD" (λ f low. accumulator (Add (f "S") (addressModeOf low))) ∷
@@ -37,7 +39,7 @@ accumulatorPages =
     page "SFR" "1100 1110" "0001 1001" (λ f low. accumulator Sfr) ∷
     []
 
--- The base: T, P and multiplication.
+-- The base: T, P and multiplication. Places 23 to 41.
 abbrev pub multiplierPages : List Page
 multiplierPages =
     page "LT" "0011 1100" "IDDD DDDD" (λ f low. multiplier (Lt (addressModeOf low))) ∷
@@ -61,7 +63,7 @@ multiplierPages =
     page "SPM" "1100 1110" "0000 10KK" (λ f low. multiplier (Spm (f "K"))) ∷
     []
 
--- The base: auxiliary registers and the data page.
+-- The base: auxiliary registers and the data page. Places 42 to 49.
 abbrev pub auxiliaryPages : List Page
 auxiliaryPages =
     page "LAR" "0011 0RRR" "IDDD DDDD" (λ f low. auxiliary (Lar (f "R") (addressModeOf low))) ∷
@@ -74,7 +76,7 @@ auxiliaryPages =
     page "LDPK" "1100 100K" "KKKK KKKK" (λ f low. auxiliary (Ldpk (f "K"))) ∷
     []
 
--- The base: branches, CALL and RET. BZ is lost: Table 4-4 (ruling R6).
+-- The base: branches, CALL and RET. BZ is lost: Table 4-4 (ruling R6). Places 50 to 61.
 abbrev pub branchPages : List Page
 branchPages =
     page "B" "1111 1111" "1DDD DDDD" (λ f low. branches (B (indirectOf low))) ∷
@@ -91,7 +93,7 @@ branchPages =
     page "RET" "1100 1110" "0010 0110" (λ f low. branches Ret) ∷
     []
 
--- The base: the data move and the ports.
+-- The base: the data move and the ports. Places 62 to 64.
 abbrev pub transferPages : List Page
 transferPages =
     page "DMOV" "0101 0110" "IDDD DDDD" (λ f low. transfers (Dmov (addressModeOf low))) ∷
@@ -99,7 +101,7 @@ transferPages =
     page "OUT" "1110 AAAA" "IDDD DDDD" (λ f low. transfers (Out (f "A") (addressModeOf low))) ∷
     []
 
--- The base: modes, repeats and the stack. ROVM is lost: Table 4-4 (ruling R6).
+-- The base: modes, repeats and the stack. ROVM is lost: Table 4-4 (ruling R6). Places 65 to 74.
 abbrev pub modePages : List Page
 modePages =
     page "RPT" "0100 1011" "IDDD DDDD" (λ f low. modes (Rpt (addressModeOf low))) ∷
@@ -114,87 +116,87 @@ modePages =
     page "POP" "1100 1110" "0001 1101" (λ f low. modes Pop) ∷
     []
 
--- Not in the base: pages with direct and indirect addressing.
+-- Not in the base: pages with direct and indirect addressing. Places 75 to 94.
 abbrev pub otherAddressed : List Page
 otherAddressed =
-    other "ADDC" "0100 0011" "IDDD DDDD" ∷
-    other "ADDT" "0100 1010" "IDDD DDDD" ∷
-    other "LACT" "0100 0010" "IDDD DDDD" ∷
-    other "SUBB" "0100 1111" "IDDD DDDD" ∷
-    other "SUBT" "0100 0110" "IDDD DDDD" ∷
-    other "ZALR" "0111 1011" "IDDD DDDD" ∷
-    other "LPH" "0101 0011" "IDDD DDDD" ∷
-    other "MPYU" "1100 1111" "IDDD DDDD" ∷
-    other "BLKD" "1111 1101" "IDDD DDDD" ∷
-    other "BLKP" "1111 1100" "IDDD DDDD" ∷
-    other "TBLR" "0101 1000" "IDDD DDDD" ∷
-    other "TBLW" "0101 1001" "IDDD DDDD" ∷
-    other "BIT" "1001 BBBB" "IDDD DDDD" ∷
-    other "BITT" "0101 0111" "IDDD DDDD" ∷
-    other "LST" "0101 0000" "IDDD DDDD" ∷
-    other "LST1" "0101 0001" "IDDD DDDD" ∷
-    other "POPD" "0111 1010" "IDDD DDDD" ∷
-    other "PSHD" "0101 0100" "IDDD DDDD" ∷
-    other "SST" "0111 1000" "IDDD DDDD" ∷
-    other "SST1" "0111 1001" "IDDD DDDD" ∷
+    unbuilt "ADDC" "0100 0011" "IDDD DDDD" ∷
+    unbuilt "ADDT" "0100 1010" "IDDD DDDD" ∷
+    unbuilt "LACT" "0100 0010" "IDDD DDDD" ∷
+    unbuilt "SUBB" "0100 1111" "IDDD DDDD" ∷
+    unbuilt "SUBT" "0100 0110" "IDDD DDDD" ∷
+    unbuilt "ZALR" "0111 1011" "IDDD DDDD" ∷
+    unbuilt "LPH" "0101 0011" "IDDD DDDD" ∷
+    unbuilt "MPYU" "1100 1111" "IDDD DDDD" ∷
+    unbuilt "BLKD" "1111 1101" "IDDD DDDD" ∷
+    unbuilt "BLKP" "1111 1100" "IDDD DDDD" ∷
+    unbuilt "TBLR" "0101 1000" "IDDD DDDD" ∷
+    unbuilt "TBLW" "0101 1001" "IDDD DDDD" ∷
+    unbuilt "BIT" "1001 BBBB" "IDDD DDDD" ∷
+    unbuilt "BITT" "0101 0111" "IDDD DDDD" ∷
+    unbuilt "LST" "0101 0000" "IDDD DDDD" ∷
+    unbuilt "LST1" "0101 0001" "IDDD DDDD" ∷
+    unbuilt "POPD" "0111 1010" "IDDD DDDD" ∷
+    unbuilt "PSHD" "0101 0100" "IDDD DDDD" ∷
+    unbuilt "SST" "0111 1000" "IDDD DDDD" ∷
+    unbuilt "SST1" "0111 1001" "IDDD DDDD" ∷
     []
 
--- Not in the base: branches.
+-- Not in the base: branches. Places 95 to 99.
 abbrev pub otherBranches : List Page
 otherBranches =
-    other "BBNZ" "1111 1001" "1DDD DDDD" ∷
-    other "BBZ" "1111 1000" "1DDD DDDD" ∷
-    other "BC" "0101 1110" "1DDD DDDD" ∷
-    other "BIOZ" "1111 1010" "1DDD DDDD" ∷
-    other "BNC" "0101 1111" "1DDD DDDD" ∷
+    unbuilt "BBNZ" "1111 1001" "1DDD DDDD" ∷
+    unbuilt "BBZ" "1111 1000" "1DDD DDDD" ∷
+    unbuilt "BC" "0101 1110" "1DDD DDDD" ∷
+    unbuilt "BIOZ" "1111 1010" "1DDD DDDD" ∷
+    unbuilt "BNC" "0101 1111" "1DDD DDDD" ∷
     []
 
--- Not in the base: pages with the upper byte CEh. SC is lost: Table 4-4 (ruling R6).
+-- Not in the base: pages with the upper byte CEh. SC is lost: Table 4-4 (ruling R6). Places 100 to 122.
 abbrev pub otherControls : List Page
 otherControls =
-    other "BACC" "1100 1110" "0010 0101" ∷
-    other "CALA" "1100 1110" "0010 0100" ∷
-    other "CMPR" "1100 1110" "0101 00KK" ∷
-    other "DINT" "1100 1110" "0000 0001" ∷
-    other "EINT" "1100 1110" "0000 0000" ∷
-    other "FORT" "1100 1110" "0000 111K" ∷
-    other "IDLE" "1100 1110" "0001 1111" ∷
-    other "RC" "1100 1110" "0011 0000" ∷
-    other "RFSM" "1100 1110" "0011 0110" ∷
-    other "RHM" "1100 1110" "0011 1000" ∷
-    other "ROL" "1100 1110" "0011 0100" ∷
-    other "ROR" "1100 1110" "0011 0101" ∷
-    other "RTC" "1100 1110" "0011 0010" ∷
-    other "RTXM" "1100 1110" "0010 0000" ∷
-    other "RXF" "1100 1110" "0000 1100" ∷
-    other "SC" "1100 1110" "0011 0001" ∷
-    other "SFSM" "1100 1110" "0011 0111" ∷
-    other "SHM" "1100 1110" "0011 1001" ∷
-    other "STC" "1100 1110" "0011 0011" ∷
-    other "STXM" "1100 1110" "0010 0001" ∷
-    other "SXF" "1100 1110" "0000 1101" ∷
-    other "TRAP" "1100 1110" "0001 1110" ∷
-    other "NORM" "1100 1110" "1MMM 0010" ∷
+    unbuilt "BACC" "1100 1110" "0010 0101" ∷
+    unbuilt "CALA" "1100 1110" "0010 0100" ∷
+    unbuilt "CMPR" "1100 1110" "0101 00KK" ∷
+    unbuilt "DINT" "1100 1110" "0000 0001" ∷
+    unbuilt "EINT" "1100 1110" "0000 0000" ∷
+    unbuilt "FORT" "1100 1110" "0000 111K" ∷
+    unbuilt "IDLE" "1100 1110" "0001 1111" ∷
+    unbuilt "RC" "1100 1110" "0011 0000" ∷
+    unbuilt "RFSM" "1100 1110" "0011 0110" ∷
+    unbuilt "RHM" "1100 1110" "0011 1000" ∷
+    unbuilt "ROL" "1100 1110" "0011 0100" ∷
+    unbuilt "ROR" "1100 1110" "0011 0101" ∷
+    unbuilt "RTC" "1100 1110" "0011 0010" ∷
+    unbuilt "RTXM" "1100 1110" "0010 0000" ∷
+    unbuilt "RXF" "1100 1110" "0000 1100" ∷
+    unbuilt "SC" "1100 1110" "0011 0001" ∷
+    unbuilt "SFSM" "1100 1110" "0011 0111" ∷
+    unbuilt "SHM" "1100 1110" "0011 1001" ∷
+    unbuilt "STC" "1100 1110" "0011 0011" ∷
+    unbuilt "STXM" "1100 1110" "0010 0001" ∷
+    unbuilt "SXF" "1100 1110" "0000 1101" ∷
+    unbuilt "TRAP" "1100 1110" "0001 1110" ∷
+    unbuilt "NORM" "1100 1110" "1MMM 0010" ∷
     []
 
--- Not in the base: the long immediates.
+-- Not in the base: the long immediates. Places 123 to 129.
 abbrev pub longImmediates : List Page
 longImmediates =
-    other "LRLK" "1101 0RRR" "0000 0000" ∷
-    other "LALK" "1101 SSSS" "0000 0001" ∷
-    other "ADLK" "1101 SSSS" "0000 0010" ∷
-    other "SBLK" "1101 SSSS" "0000 0011" ∷
-    other "ANDK" "1101 SSSS" "0000 0100" ∷
-    other "ORK" "1101 SSSS" "0000 0101" ∷
-    other "XORK" "1101 SSSS" "0000 0110" ∷
+    unbuilt "LRLK" "1101 0RRR" "0000 0000" ∷
+    unbuilt "LALK" "1101 SSSS" "0000 0001" ∷
+    unbuilt "ADLK" "1101 SSSS" "0000 0010" ∷
+    unbuilt "SBLK" "1101 SSSS" "0000 0011" ∷
+    unbuilt "ANDK" "1101 SSSS" "0000 0100" ∷
+    unbuilt "ORK" "1101 SSSS" "0000 0101" ∷
+    unbuilt "XORK" "1101 SSSS" "0000 0110" ∷
     []
 
--- Pages whose words a page of the base has too. Document 01: ZAC is LACK 0, NOP and LARP are MAR.
+-- Pages whose words a page of the base has too, so that they are never built: "ZAC is LACK 0, NOP and LARP are MAR" (document 01). Places 130 to 132.
 abbrev pub sharedPages : List Page
 sharedPages =
-    other "ZAC" "1100 1010" "0000 0000" ∷
-    other "NOP" "0101 0101" "0000 0000" ∷
-    other "LARP" "0101 0101" "1000 1RRR" ∷
+    unbuilt "ZAC" "1100 1010" "0000 0000" ∷
+    unbuilt "NOP" "0101 0101" "0000 0000" ∷
+    unbuilt "LARP" "0101 0101" "1000 1RRR" ∷
     []
 
 abbrev pub basePages : List Page
@@ -203,6 +205,6 @@ basePages = accumulatorPages ++ (multiplierPages ++ (auxiliaryPages ++ (branchPa
 abbrev pub otherPages : List Page
 otherPages = otherAddressed ++ (otherBranches ++ (otherControls ++ (longImmediates ++ sharedPages)))
 
--- All of them. A word that two pages have is the base instruction (document 01): its page stands first.
+-- All of them, in the order that stays. A word that two pages have is the base instruction (document 01): its page stands first.
 abbrev pub pages : List Page
 pages = basePages ++ otherPages

@@ -6,10 +6,10 @@ use Prim.Native.Nat.{ℕ, _/_, _%_, _<_}
 use Prim.Native.String.{String}
 use native.Mathlib.Nat.{zero-add}
 use native.Mathlib.Omega.{arith}
-use lib.Dec.{T, eqb, ltb, leb, eqb→eq}
+use lib.Dec.{T, eqb, ltb, eqb→eq}
 use lib.ListN.{getD}
 use lib.Text.{eqt, eqt→eq}
-use Rattle.instructions.specs.Every.{both-left, both-right, all, all-at}
+use Rattle.instructions.specs.Every.{both-left, both-right, all, all-at, between}
 use Rattle.instructions.specs.Encoding.{pick, both, find, lowFits}
 use Rattle.instructions.specs.Pages.{pages}
 use Rattle.instructions.specs.Decode.{decodeOf}
@@ -32,9 +32,6 @@ kindOf u = kindAt u (firstOf (pagesOf u))
 abbrev pub or : Bool → Bool → Bool
 or true b = true
 or false b = b
-
-abbrev between : ℕ → ℕ → ℕ → Bool
-between a b k = both (leb a k) (ltb k b)
 
 -- the kinds with a low byte "IDDD DDDD"
 unfoldable pub isAddressed : ℕ → Bool

@@ -18,7 +18,9 @@ use instructions::Modes;
 use instructions::Multiplier;
 use instructions::Transfers;
 
-// The number of pages.
+// The number of the base's pages, which stand first in the list, and of all pages.
+const BASE_PAGES: u8 = 75;
+
 const PAGES: u8 = 133;
 
 // Bits 6 to 4 of an indirect operand (Table 4-1).
@@ -227,15 +229,23 @@ fn base_of(page: u8, w: u16) -> Instruction
     Instruction::Modes(mode_page(page, w))
 }
 
+// Places 75 to 132, the pages not in the base: one that is built has an arm here.
+fn later_page(page: u8, w: u16) -> Decoded
+    requires { ⌜ (75 ≤ page) × (page < 133) ⌝ }
+    ensures { λ r. ⌜ r ≡ meaningAt page w ⌝ }
+{
+    Decoded::Unbuilt
+}
+
 // What the page at a place makes of a word.
 pub fn meaning(page: u8, w: u16) -> Decoded
     ensures { λ r. ⌜ r ≡ meaningAt page w ⌝ }
 {
-    if page < 75 {
+    if page < BASE_PAGES {
         return Decoded::Built(base_of(page, w));
     }
     if page < PAGES {
-        return Decoded::Unbuilt;
+        return later_page(page, w);
     }
     Decoded::Nothing
 }
