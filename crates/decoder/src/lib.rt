@@ -165,13 +165,13 @@ fn page_of(kind: u8, low: u8) -> u8
     ensures { λ r. ⌜ r ≡ placeOfKind kind low ⌝ }
 {
     if is_addressed(kind) {
-        if word_bytes::is_operand(low) {
+        if kinds::is_operand(low) {
             return kind;
         }
         return NO_PAGE;
     }
     if is_branch(kind) {
-        if word_bytes::is_indirect(low) {
+        if kinds::is_indirect(low) {
             return kind;
         }
         return NO_PAGE;
@@ -194,6 +194,6 @@ pub fn decode_by(kinds: &[u8], w: u16) -> Decoded
 pub fn decode(w: u16) -> Decoded
     ensures { λ r. ⌜ r ≡ decodeOf w ⌝ }
 {
-    let table = word_bytes::kinds();
+    let table = kinds::kinds();
     decode_by(&table, w)
 }

@@ -102,7 +102,7 @@ pub fn run(
             answer: checked,
         };
     }
-    let kinds = word_bytes::kinds();
+    let kinds = kinds::kinds();
     let mut n = m;
     let mut steps: u16 = 0;
     loop {

@@ -1,1 +1,2 @@
 pub mod EncodeLaws
+pub mod OperandLaws

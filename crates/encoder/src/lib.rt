@@ -1,7 +1,14 @@
 // The encoder: an instruction back to its word. A number above the bits that its page has for it gives its low bits.
+mod operand_words;
+
 ghost use mathlib.Core.Path.{_≡_};
 ghost use Rattle.encodings.specs.Encode.{accumulatorFields, multiplierFields, auxiliaryFields, branchFields};
 ghost use Rattle.encodings.specs.Encode.{transferFields, modeFields, wordOf, encodeOf};
+use crate::operand_words::addressed;
+use crate::operand_words::branching;
+use crate::operand_words::constant;
+use crate::operand_words::selected;
+use crate::operand_words::shifted;
 use instructions::Accumulator;
 use instructions::Auxiliary;
 use instructions::Branches;
@@ -9,11 +16,6 @@ use instructions::Instruction;
 use instructions::Modes;
 use instructions::Multiplier;
 use instructions::Transfers;
-use operand_words::addressed;
-use operand_words::branching;
-use operand_words::constant;
-use operand_words::selected;
-use operand_words::shifted;
 
 fn accumulator_word(x: Accumulator) -> u16
     ensures { λ r. ⌜ r ≡ wordOf (accumulatorFields x) ⌝ }

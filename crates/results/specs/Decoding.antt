@@ -1,16 +1,11 @@
 -- One possible result of each exported function: decoding.
 use Rattle.meanings.proofs.meaning.Reads as Meaning
-use Rattle.word_bytes.proofs.kinds.Reads as Kinds
-use Rattle.word_bytes.proofs.is_operand.Reads as IsOperand
-use Rattle.word_bytes.proofs.is_indirect.Reads as IsIndirect
+use Rattle.kinds.proofs.kinds.Reads as Kinds
+use Rattle.kinds.proofs.is_operand.Reads as IsOperand
+use Rattle.kinds.proofs.is_indirect.Reads as IsIndirect
 use Rattle.decoder.proofs.decode_by.Reads as DecodeBy
 use Rattle.decoder.proofs.decode.Reads as Decode
 use Rattle.encoder.proofs.encode.Reads as Encode
-use Rattle.operand_words.proofs.constant.Reads as Constant
-use Rattle.operand_words.proofs.branching.Reads as Branching
-use Rattle.operand_words.proofs.addressed.Reads as Addressed
-use Rattle.operand_words.proofs.shifted.Reads as Shifted
-use Rattle.operand_words.proofs.selected.Reads as Selected
 use Rattle.results.specs.One.{OneResult, same}
 
 pub meaning : OneResult Meaning.Post
@@ -33,18 +28,3 @@ decode κs a r r′ e e′ p q = same p q
 
 pub encode : OneResult Encode.Post
 encode κs a r r′ e e′ p q = same p q
-
-pub constant : OneResult Constant.Post
-constant κs a r r′ e e′ p q = same p q
-
-pub branching : OneResult Branching.Post
-branching κs a r r′ e e′ p q = same p q
-
-pub addressed : OneResult Addressed.Post
-addressed κs a r r′ e e′ p q = same p q
-
-pub shifted : OneResult Shifted.Post
-shifted κs a r r′ e e′ p q = same p q
-
-pub selected : OneResult Selected.Post
-selected κs a r r′ e e′ p q = same p q

@@ -2,8 +2,8 @@ use mathlib.Core.Path.{_∙_}
 use native.Mathlib.Omega.{arith}
 use Rattle.encodings.specs.Encode.{isIndirect, addressBits}
 use borrow.Author.Needs.{needs}
-use Rattle.operand_words.proofs.addressed.Statement.{statement}
-use Rattle.operand_words.proofs.addressed.Tie as tie
+use Rattle.encoder.proofs.operand_words.addressed.Statement.{statement}
+use Rattle.encoder.proofs.operand_words.addressed.Tie as tie
 
 enum-known-a : tie.Need-enum-known-a
 enum-known-a c = search needs

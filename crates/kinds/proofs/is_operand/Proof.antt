@@ -1,7 +1,7 @@
 use mathlib.Core.Path.{refl}
 use Rattle.instructions.specs.Encoding.{lowFits}
-use Rattle.word_bytes.proofs.is_operand.Statement.{statement}
-use Rattle.word_bytes.proofs.is_operand.Tie as tie
+use Rattle.kinds.proofs.is_operand.Statement.{statement}
+use Rattle.kinds.proofs.is_operand.Tie as tie
 
 returns : tie.Need-returns
 unfolding lowFits

@@ -1,9 +1,9 @@
 use borrow.Author.Needs.{needs}
 use native.Mathlib.Omega.{arith}
 use Rattle.encodings.specs.Encode.{indirectBits}
-use Rattle.operand_words.specs.OperandLaws.{modification-lt, next-lt}
-use Rattle.operand_words.proofs.indirect_bits.Statement.{statement}
-use Rattle.operand_words.proofs.indirect_bits.Tie as tie
+use Rattle.encoder.specs.OperandLaws.{modification-lt, next-lt}
+use Rattle.encoder.proofs.operand_words.indirect_bits.Statement.{statement}
+use Rattle.encoder.proofs.operand_words.indirect_bits.Tie as tie
 
 modification-bits-requires : tie.Need-modification-bits-requires
 modification-bits-requires c κs = search needs

@@ -1,7 +1,7 @@
 use Rattle.instructions.specs.Every.{both-true}
 use Rattle.instructions.specs.Encoding.{lowFits}
-use Rattle.word_bytes.proofs.is_indirect.Statement.{statement}
-use Rattle.word_bytes.proofs.is_indirect.Tie as tie
+use Rattle.kinds.proofs.is_indirect.Statement.{statement}
+use Rattle.kinds.proofs.is_indirect.Tie as tie
 
 returns : tie.Need-returns
 unfolding lowFits

@@ -1,7 +1,7 @@
 use mathlib.Core.Path.{refl}
 use Rattle.kinds.specs.Table.{kindTable}
-use Rattle.word_bytes.proofs.kinds.Statement.{statement}
-use Rattle.word_bytes.proofs.kinds.Tie as tie
+use Rattle.kinds.proofs.kinds.Statement.{statement}
+use Rattle.kinds.proofs.kinds.Tie as tie
 
 returns : tie.Need-returns
 unfolding kindTable

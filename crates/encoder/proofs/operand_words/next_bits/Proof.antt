@@ -1,7 +1,7 @@
 use Rattle.encodings.specs.Encode.{nextBits}
 use borrow.Author.Needs.{needs}
-use Rattle.operand_words.proofs.next_bits.Statement.{statement}
-use Rattle.operand_words.proofs.next_bits.Tie as tie
+use Rattle.encoder.proofs.operand_words.next_bits.Statement.{statement}
+use Rattle.encoder.proofs.operand_words.next_bits.Tie as tie
 
 enum-told : tie.Need-enum-told
 enum-told c = search needs
