@@ -4,8 +4,8 @@ use mathlib.Core.Bool.{Bool, true, false, not}
 use Prim.Native.Nat.{ℕ, _≤_, _<_}
 use native.Mathlib.Omega.{arith}
 use lib.Dec.{T}
-use Rattle.instructions.specs.Every.{all, all-at, between, between-is}
-use Rattle.instructions.specs.Encoding.{pick}
+use Rattle.instructions.specs.Every.{all, all-at, between-is}
+use Rattle.instructions.specs.Encoding.{pick, between}
 
 -- Test: from lo on and below hi, f says t.
 abbrev pub saysFrom : ℕ → ℕ → Bool → (ℕ → Bool) → ℕ → Bool

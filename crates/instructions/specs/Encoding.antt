@@ -3,7 +3,7 @@ use mathlib.Core.Bool.{Bool, true, false, not}
 use mathlib.Core.List.{List, [], _∷_}
 use Prim.Native.Nat.{ℕ, zero, suc, _+_, _-_, _/_, _%_, _^_}
 use Prim.Native.String.{String, _++_, len, slice}
-use lib.Dec.{eqb, ltb}
+use lib.Dec.{eqb, ltb, leb}
 use lib.Text.{eqt}
 use Rattle.dma.specs.declared.Modification.{Modification}
 use Rattle.dma.specs.declared.Modification.the-variants.{None, Minus, Plus, MinusReversed, MinusIndex, PlusIndex, PlusReversed}
@@ -29,6 +29,10 @@ pick false a b = b
 abbrev pub both : Bool → Bool → Bool
 both true b = b
 both false b = false
+
+-- from a on and below b
+abbrev pub between : ℕ → ℕ → ℕ → Bool
+between a b k = both (leb a k) (ltb k b)
 
 -- what the first case with the key k says, and d where there is none
 abbrev pub find : {A : Type 0} → A → List (ℕ × A) → ℕ → A

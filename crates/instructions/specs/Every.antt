@@ -4,9 +4,9 @@ use mathlib.Core.Bool.{Bool, true, false}
 use Prim.Native.Nat.{ℕ, zero, suc, _+_, _^_, _<_, _≤_}
 use native.Mathlib.Omega.{arith}
 use native.Mathlib.Nat.{pow-suc}
-use lib.Dec.{T, ltb, leb}
+use lib.Dec.{T, ltb}
 use borrow.Author.Tests.{ltb-true, ltb-false, lt-ltb, le-leb}
-use Rattle.instructions.specs.Encoding.{both}
+use Rattle.instructions.specs.Encoding.{both, between}
 
 pub both-left : (a b : Bool) → T (both a b) → T a
 both-left true b t = tt
@@ -34,10 +34,6 @@ all-at f (suc k) b w t lo hi =
     by-order w (b + 2 ^ k)
     (λ h. all-at f k b w (both-left (all f k b) (all f k (b + 2 ^ k)) t) lo h)
     (λ h. all-at f k (b + 2 ^ k) w (both-right (all f k b) (all f k (b + 2 ^ k)) t) h (omega (arith, pow-suc 2 k)))
-
--- from a on and below b
-abbrev pub between : ℕ → ℕ → ℕ → Bool
-between a b k = both (leb a k) (ltb k b)
 
 pub between-is : (a b k : ℕ) → a ≤ k → k < b → between a b k ≡ true
 between-is a b k lo hi = rw (le-leb a k lo, lt-ltb k b hi)

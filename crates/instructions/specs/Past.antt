@@ -7,8 +7,8 @@ use native.Mathlib.Nat.{le-of-suc-le-suc, not-suc-le-zero}
 use native.Mathlib.Omega.{arith}
 use lib.Dec.{T}
 use lib.ListN.{length}
-use Rattle.instructions.specs.Every.{all, all-at, between, between-is}
-use Rattle.instructions.specs.Encoding.{Page, pick, both, find, means}
+use Rattle.instructions.specs.Every.{all, all-at, between-is}
+use Rattle.instructions.specs.Encoding.{Page, pick, both, between, find, means}
 use Rattle.instructions.specs.Pages.{otherPages, pages}
 use Rattle.instructions.specs.Decode.{isUnbuilt}
 use Rattle.instructions.specs.Places.{meaningIn, meaningAt}
@@ -50,7 +50,7 @@ later-tested : (w : ℕ) → T (all (unbuiltWhere (noneLater w) w) 8 0)
 unfolding meaningAt laterBuilt
 later-tested w = tt
 
--- A page past the base's that is none of those that are built is not built.
+-- A page that is not in the base, and is none of those that are built, is not built.
 pub later-unbuilt : (p w : ℕ) → 75 ≤ p → p < 133 → find Unbuilt (laterBuilt w) p ≡ Unbuilt → meaningAt p w ≡ Unbuilt
 later-unbuilt p w lo hi none =
     unbuilt-where (noneLater w) p w (later-tested w) hi (rw (between-is 75 133 p lo hi, none))

@@ -9,8 +9,8 @@ use native.Mathlib.Omega.{arith}
 use lib.Dec.{T, eqb, ltb, eqb→eq}
 use lib.ListN.{getD}
 use lib.Text.{eqt, eqt→eq}
-use Rattle.instructions.specs.Every.{both-left, both-right, all, all-at, between}
-use Rattle.instructions.specs.Encoding.{pick, both, find, lowFits}
+use Rattle.instructions.specs.Every.{both-left, both-right, all, all-at}
+use Rattle.instructions.specs.Encoding.{pick, both, between, find, lowFits}
 use Rattle.instructions.specs.Pages.{pages}
 use Rattle.instructions.specs.Decode.{decodeOf}
 use Rattle.instructions.specs.Places.{placeIn, meaningAt, upperIn, lowerIn, by-bytes, pagesOf, decode-at-place}

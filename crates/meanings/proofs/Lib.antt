@@ -1,2 +1,3 @@
 pub mod LastKey
 pub mod Rest
+pub mod Later

@@ -229,7 +229,7 @@ fn base_of(page: u8, w: u16) -> Instruction
     Instruction::Modes(mode_page(page, w))
 }
 
-// Places 75 to 132, the pages not in the base: one that is built has an arm here.
+// Places 75 to 132, the pages not in the base: each that is built has an arm here, in the order of the list.
 fn later_page(page: u8, w: u16) -> Decoded
     requires { ⌜ (75 ≤ page) × (page < 133) ⌝ }
     ensures { λ r. ⌜ r ≡ meaningAt page w ⌝ }

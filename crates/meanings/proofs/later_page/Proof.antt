@@ -1,11 +1,11 @@
-use mathlib.Core.Path.{sym, refl}
-use Rattle.instructions.specs.Past.{laterBuilt, later-unbuilt}
+use Rattle.instructions.specs.Past.{laterBuilt}
+use Rattle.meanings.proofs.Later.{none-later}
 use Rattle.meanings.proofs.later_page.Statement.{statement}
 use Rattle.meanings.proofs.later_page.Tie as tie
 
 returns : tie.Need-returns
 unfolding laterBuilt
-returns c = sym (later-unbuilt (c .args .page) (c .args .w) (c .pre .0) (c .pre .1) refl)
+returns c = none-later (c .args .page) (c .args .w) (c .pre .0) (c .pre .1) tt
 
 pub later-page-spec : {M : Type 1} → statement M
 later-page-spec = tie.close (tie.spec returns)
