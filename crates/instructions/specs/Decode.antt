@@ -20,3 +20,9 @@ abbrev pub isUnbuilt : Decoded → Bool
 isUnbuilt (Built i) = false
 isUnbuilt Unbuilt = true
 isUnbuilt Nothing = false
+
+-- in no encoding
+abbrev pub isNothing : Decoded → Bool
+isNothing (Built i) = false
+isNothing Unbuilt = false
+isNothing Nothing = true

@@ -12,12 +12,12 @@ use Rattle.instructions.specs.declared.Decoded.{Decoded}
 use Rattle.instructions.specs.declared.Decoded.the-variants.{Built, Unbuilt, Nothing}
 use Rattle.instructions.specs.Encoding.{Page, pick, both, has, means, first, addressModeOf, indirectOf, nextOf}
 use Rattle.instructions.specs.Pages.{accumulatorPages, multiplierPages, auxiliaryPages, branchPages, transferPages, modePages, basePages, otherPages, pages}
-use Rattle.instructions.specs.Decode.{decodeOf}
+use Rattle.instructions.specs.Decode.{decodeOf, isUnbuilt}
 use Rattle.instructions.specs.Every.{both-left, both-right}
 use Rattle.machine.specs.declared.Machine.{Machine}
 use Rattle.board.specs.Windows.{programWord}
 use Rattle.board.specs.Given.{Given}
-use Rattle.steps.specs.Table.{decodedAt, isUnbuilt}
+use Rattle.steps.specs.Table.{decodedAt}
 use Rattle.laws.specs.Steps.{_and_}
 use Rattle.ranges.specs.Fields.{NextFits, IndirectFits, AddressFits, DecodedFits}
 

@@ -1,5 +1,5 @@
 -- The table of answers of a step: one row for each line of the order in document 01. The refusal is the first row that holds.
-use mathlib.Core.Bool.{Bool, true, false, not, cond, _&&_}
+use mathlib.Core.Bool.{Bool, not, cond, _&&_}
 use mathlib.Core.List.{List, [], _∷_, _++_}
 use Prim.Native.Nat.{ℕ}
 use lib.Dec.{ltb, eqb}
@@ -11,7 +11,7 @@ use Rattle.answers.specs.declared.Answer.the-variants.{CellOutOfRange, SlicesUn
 use Rattle.instructions.specs.declared.Instruction.{Instruction}
 use Rattle.instructions.specs.declared.Decoded.{Decoded}
 use Rattle.instructions.specs.declared.Decoded.the-variants.{Built, Unbuilt, Nothing}
-use Rattle.instructions.specs.Decode.{decodeOf}
+use Rattle.instructions.specs.Decode.{decodeOf, isUnbuilt, isNothing}
 use Rattle.pages.specs.Traits.{traitsOf}
 use Rattle.pages.specs.Addressing.{addressOf}
 use Rattle.board.specs.Given.{Given}
@@ -31,16 +31,6 @@ secondAddress m = wrappedSum (m .pc) 1
 
 unfoldable pub secondWord : Instruction → Given → List ℕ → Machine → ℕ
 secondWord i g «data» m = cond (eqb (traitsOf i .words) 2) (programWord (m .cnf) (secondAddress m) (g .rom) «data») 0
-
-abbrev pub isNothing : Decoded → Bool
-isNothing (Built i) = false
-isNothing Unbuilt = false
-isNothing Nothing = true
-
-abbrev pub isUnbuilt : Decoded → Bool
-isUnbuilt (Built i) = false
-isUnbuilt Unbuilt = true
-isUnbuilt Nothing = false
 
 -- "RPTC above 0 and its page says not repeatable"
 unfoldable pub notRepeatable : Machine → Instruction → Bool
