@@ -56,7 +56,7 @@ fn lac(m: Machine, shift: u8, w: u16) -> Machine
 fn addh(m: Machine, w: u16) -> Machine
     ensures { λ r. ⌜ r ≡ ADDH w m ⌝ }
 {
-    with_sum(m, page_sums::add_high(m.acc, w, m.ov, m.ovm, m.c))
+    with_sum(m, sums::add_high(m.acc, w, m.ov, m.ovm, m.c))
 }
 
 fn adds(m: Machine, w: u16) -> Machine
@@ -71,7 +71,7 @@ fn adds(m: Machine, w: u16) -> Machine
 fn subh(m: Machine, w: u16) -> Machine
     ensures { λ r. ⌜ r ≡ SUBH w m ⌝ }
 {
-    with_sum(m, page_sums::subtract_high(m.acc, w, m.ov, m.ovm, m.c))
+    with_sum(m, sums::subtract_high(m.acc, w, m.ov, m.ovm, m.c))
 }
 
 fn subs(m: Machine, w: u16) -> Machine
@@ -88,14 +88,14 @@ fn subc(m: Machine, w: u16) -> Machine
 {
     with_sum(
         m,
-        page_sums::subtract_conditionally(m.acc, shifts::operand_of(w, 15, m.sxm), m.ov),
+        sums::subtract_conditionally(m.acc, shifts::operand_of(w, 15, m.sxm), m.ov),
     )
 }
 
 fn zalh(m: Machine, w: u16) -> Machine
     ensures { λ r. ⌜ r ≡ ZALH w m ⌝ }
 {
-    with_acc(m, page_sums::in_high_half(w))
+    with_acc(m, sums::in_high_half(w))
 }
 
 fn zals(m: Machine, w: u16) -> Machine
@@ -161,13 +161,13 @@ fn cmpl(m: Machine) -> Machine
 fn neg(m: Machine) -> Machine
     ensures { λ r. ⌜ r ≡ NEG m ⌝ }
 {
-    with_sum(m, page_sums::negate(m.acc, m.ov, m.ovm))
+    with_sum(m, sums::negate(m.acc, m.ov, m.ovm))
 }
 
 fn abs(m: Machine) -> Machine
     ensures { λ r. ⌜ r ≡ ABS m ⌝ }
 {
-    with_sum(m, page_sums::absolute_value(m.acc, m.ov, m.ovm))
+    with_sum(m, sums::absolute_value(m.acc, m.ov, m.ovm))
 }
 
 fn sfl(m: Machine) -> Machine

@@ -49,3 +49,10 @@ pub fn is_done(a: Answer) -> bool
 {
     number(a) == 0
 }
+
+// The same, as the library for C gives it.
+pub fn number_of(answer: Answer) -> u32
+    ensures { λ r. ⌜ r ≡ numberOf answer ⌝ }
+{
+    number(answer) as u32
+}

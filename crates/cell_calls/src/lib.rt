@@ -5,12 +5,11 @@ ghost use Rattle.machine.specs.Reset.{resetMachine};
 ghost use Rattle.cells.specs.Checks.{lengthAnswer, cellsAnswer, cellsAfter};
 use answers::Answer;
 use answers::is_done;
+use answers::number_of;
 use cell_storing::put_cells;
 use cells::cells_answer;
 use cells::length_answer;
 use machine::Machine;
-use numbers::number_of;
-use numbers::steps_of;
 
 // Whether the cells pass the checks.
 pub fn cells_pass(cells: &[u32]) -> bool
@@ -61,6 +60,6 @@ pub fn put_run(cells: &mut [u32], m: Machine, answer: Answer, done: u16, steps: 
     ensures stored { λ _. ⌜ now (cells .exit) ≡ cellsAfter (now (cells .entry)) m ⌝ }
     ensures counted { λ _. ⌜ now (steps .exit) ≡ done ⌝ }
 {
-    *steps = steps_of(done);
+    *steps = done as u32;
     put_step(cells, m, answer)
 }

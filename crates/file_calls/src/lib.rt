@@ -4,7 +4,7 @@ ghost use lib.ListN.{length};
 ghost use Rattle.answers.specs.Numbers.{numberOf};
 ghost use Rattle.runfile.specs.Files.{readAnswer, readContents};
 ghost use Rattle.setting_up.specs.SetUp.{lent, setUpAnswer, setUp};
-use numbers::number_of;
+use answers::number_of;
 use runfile::reading::head_of;
 use runfile::reading::read_answer;
 use setting_up::set_up;

@@ -5,7 +5,7 @@ use Rattle.runfile.proofs.numbers.counts_kept.Reads as CountsKept
 use Rattle.runfile.proofs.numbers.rules_kept.Reads as RulesKept
 use Rattle.runfile.proofs.reading.read_answer.Reads as ReadAnswer
 use Rattle.runfile.proofs.reading.head_of.Reads as HeadOf
-use Rattle.set_up_answers.proofs.set_up_answer.Reads as SetUpAnswer
+use Rattle.setting_up.proofs.set_up_answer.Reads as SetUpAnswer
 use Rattle.setting_up.proofs.set_up.Reads as SetUp
 use Rattle.writing.proofs.file_length.Reads as FileLength
 use Rattle.writing.proofs.write_file.Reads as WriteFile

@@ -3,8 +3,7 @@ use Rattle.cells.proofs.length_answer.Reads as LengthAnswer
 use Rattle.cells.proofs.cells_answer.Reads as CellsAnswer
 use Rattle.cell_reading.proofs.machine_of.Reads as MachineOf
 use Rattle.cell_storing.proofs.put_cells.Reads as PutCells
-use Rattle.numbers.proofs.number_of.Reads as NumberOf
-use Rattle.numbers.proofs.steps_of.Reads as StepsOf
+use Rattle.answers.proofs.number_of.Reads as NumberOf
 use Rattle.cell_calls.proofs.cells_pass.Reads as CellsPass
 use Rattle.cell_calls.proofs.cells_number.Reads as CellsNumber
 use Rattle.cell_calls.proofs.refused_run.Reads as RefusedRun
@@ -50,9 +49,6 @@ put-cells κs a r r′ e e′ p q = same p q
 
 pub number-of : OneResult NumberOf.Post
 number-of κs a r r′ e e′ p q = same p q
-
-pub steps-of : OneResult StepsOf.Post
-steps-of κs a r r′ e e′ p q = same p q
 
 pub cells-pass : OneResult CellsPass.Post
 cells-pass κs a r r′ e e′ p q = same p q

@@ -1,4 +1,5 @@
 -- definitions
+pub mod SetUpAnswer
 pub mod SetUp
 -- words of the laws
 pub mod SetUpFacts

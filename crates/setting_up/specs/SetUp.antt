@@ -5,8 +5,8 @@ use Prim.Native.Nat.{ℕ, _+_, _-_}
 use lib.ListN.{length, replicate}
 use Rattle.answers.specs.Numbers.{isDone}
 use Rattle.runfile.specs.Files.{Contents, readContents}
-pub use Rattle.set_up_answers.specs.SetUpAnswer.{Lent, lent}
-unfoldable pub use Rattle.set_up_answers.specs.SetUpAnswer.{lentFit, setUpAnswer}
+pub use Rattle.setting_up.specs.SetUpAnswer.{Lent, lent}
+unfoldable pub use Rattle.setting_up.specs.SetUpAnswer.{lentFit, setUpAnswer}
 
 -- a memory of 4,096 words with these from an address on; every other word is 0, at absent addresses too (ruling R33)
 unfoldable pub memoryWith : ℕ → List ℕ → List ℕ

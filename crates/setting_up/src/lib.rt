@@ -8,13 +8,29 @@ ghost use Rattle.setting_up.specs.SetUp.{lent, setUpAnswer, memoryWith, 
 ghost use Rattle.setting_up.specs.SetUpFacts.{SetUpDone};
 use answers::Answer;
 use runfile::numbers;
-use set_up_answers::set_up_answer;
+use runfile::reading;
 
 // The words of each of the two memories.
 const MEMORY_WORDS: usize = 4096;
 
 // "Data go to 0400h onward"
 const DATA_START: u16 = 0x400;
+
+// What setting up answers: a file's 20, 21 and 22, then 2.
+pub fn set_up_answer(bytes: &[u8], rom: &[u16], data: &[u16], input: &[u16]) -> Answer
+    ensures { λ r. ⌜ r ≡ setUpAnswer (now (bytes .entry)) (lent (now (rom .entry)) (now («data» .entry)) (now (input .entry))) ⌝ }
+{
+    let read = reading::read_answer(bytes);
+    if !answers::is_done(read) {
+        return read;
+    }
+    let head = reading::head_of(bytes);
+    if slices::memories_fit(rom, data) & (input.len() == head.input_count as usize) {
+        Answer::Done
+    } else {
+        Answer::SlicesUnfit
+    }
+}
 
 // Every word of a memory becomes 0.
 fn clear(memory: &mut [u16])

@@ -7,7 +7,7 @@ ghost use Rattle.writing.specs.Writing.{contents, writeAnswer, written};
 ghost use Rattle.runfile.specs.Facts.{CountsKept};
 ghost use Rattle.write_calls.specs.WriteCalls.{writtenCount};
 use answers::is_done;
-use numbers::number_of;
+use answers::number_of;
 use writing::file_length;
 use writing::write_file;
 

@@ -1,8 +1,8 @@
 use mathlib.Core.Path.{refl}
 use Rattle.alu.specs.PageSums.{inHighHalf}
 use borrow.Author.Needs.{needs}
-use Rattle.page_sums.proofs.in_high_half.Statement.{statement}
-use Rattle.page_sums.proofs.in_high_half.Tie as tie
+use Rattle.sums.proofs.in_high_half.Statement.{statement}
+use Rattle.sums.proofs.in_high_half.Tie as tie
 
 mul-result : tie.Need-mul-result
 mul-result c = search needs

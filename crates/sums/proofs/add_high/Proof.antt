@@ -1,7 +1,7 @@
-use Rattle.page_sums.specs.PageSumLaws.{add-high-sets, add-high-keeps}
+use Rattle.sums.specs.PageSumLaws.{add-high-sets, add-high-keeps}
 use borrow.Author.Needs.{needs}
-use Rattle.page_sums.proofs.add_high.Statement.{statement}
-use Rattle.page_sums.proofs.add_high.Tie as tie
+use Rattle.sums.proofs.add_high.Statement.{statement}
+use Rattle.sums.proofs.add_high.Tie as tie
 
 in-high-half-requires : tie.Need-in-high-half-requires
 in-high-half-requires c κs = search needs

@@ -1,7 +1,7 @@
-use Rattle.page_sums.specs.PageSumLaws.{conditionally-taken, conditionally-left}
+use Rattle.sums.specs.PageSumLaws.{conditionally-taken, conditionally-left}
 use borrow.Author.Needs.{needs}
-use Rattle.page_sums.proofs.subtract_conditionally.Statement.{statement}
-use Rattle.page_sums.proofs.subtract_conditionally.Tie as tie
+use Rattle.sums.proofs.subtract_conditionally.Statement.{statement}
+use Rattle.sums.proofs.subtract_conditionally.Tie as tie
 
 subtract-requires : tie.Need-subtract-requires
 subtract-requires c κs = search needs

@@ -1,8 +1,8 @@
 use native.Mathlib.Omega.{arith}
-use Rattle.page_sums.specs.PageSumLaws.{absolute-same, absolute-negated}
+use Rattle.sums.specs.PageSumLaws.{absolute-same, absolute-negated}
 use borrow.Author.Needs.{needs}
-use Rattle.page_sums.proofs.absolute_value.Statement.{statement}
-use Rattle.page_sums.proofs.absolute_value.Tie as tie
+use Rattle.sums.proofs.absolute_value.Statement.{statement}
+use Rattle.sums.proofs.absolute_value.Tie as tie
 
 returns : tie.Need-returns
 returns c = absolute-same _ _ _ (omega arith)

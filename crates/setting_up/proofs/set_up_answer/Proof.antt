@@ -1,12 +1,12 @@
 use Rattle.answers.specs.NumberLaws.{told}
 use mathlib.Core.Path.{ap, _∙_}
-use Rattle.set_up_answers.specs.SetUpAnswer.{setUpAnswer, lentFit}
+use Rattle.setting_up.specs.SetUpAnswer.{setUpAnswer, lentFit}
 use Rattle.runfile.specs.Files.{headOf}
 use borrow.Author.Tests.{not-true, not-false}
 use Rattle.runfile.specs.declared.reading.Head.{Head}
 use borrow.Author.Needs.{needs}
-use Rattle.set_up_answers.proofs.set_up_answer.Statement.{statement}
-use Rattle.set_up_answers.proofs.set_up_answer.Tie as tie
+use Rattle.setting_up.proofs.set_up_answer.Statement.{statement}
+use Rattle.setting_up.proofs.set_up_answer.Tie as tie
 
 read-answer-requires : tie.Need-read-answer-requires
 read-answer-requires c κs = search needs

@@ -1,8 +1,8 @@
 use mathlib.Core.Path.{_∙_}
-use Rattle.page_sums.specs.PageSumLaws.{negated-is}
+use Rattle.sums.specs.PageSumLaws.{negated-is}
 use borrow.Author.Needs.{needs}
-use Rattle.page_sums.proofs.negate.Statement.{statement}
-use Rattle.page_sums.proofs.negate.Tie as tie
+use Rattle.sums.proofs.negate.Statement.{statement}
+use Rattle.sums.proofs.negate.Tie as tie
 
 subtract-requires : tie.Need-subtract-requires
 subtract-requires c κs = search needs
