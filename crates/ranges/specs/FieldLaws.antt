@@ -4,22 +4,21 @@ use mathlib.Core.Bool.{Bool, true, false}
 use mathlib.Core.List.{List, [], _∷_, _++_}
 use Prim.Native.Nat.{ℕ, _/_, _%_}
 use native.Mathlib.Omega.{arith}
-use lib.Dec.{T, eqb, ltb}
+use lib.Dec.{eqb, ltb}
 use borrow.Author.Tests.{ltb-true}
 use Rattle.dma.specs.declared.NextArp.the-variants.{Same, To}
 use Rattle.dma.specs.declared.Address.the-variants as Mode
 use Rattle.instructions.specs.declared.Decoded.{Decoded}
 use Rattle.instructions.specs.declared.Decoded.the-variants.{Built, Unbuilt, Nothing}
-use Rattle.instructions.specs.Encoding.{Page, pick, both, has, means, first, addressModeOf, indirectOf, nextOf}
+use Rattle.instructions.specs.Encoding.{Page, pick, has, means, first, addressModeOf, indirectOf, nextOf}
 use Rattle.instructions.specs.Pages.{accumulatorPages, multiplierPages, auxiliaryPages, branchPages, transferPages, modePages, basePages, otherPages, pages}
-use Rattle.instructions.specs.Decode.{decodeOf, isUnbuilt}
-use Rattle.instructions.specs.Every.{both-left, both-right}
+use Rattle.instructions.specs.Decode.{decodeOf}
 use Rattle.machine.specs.declared.Machine.{Machine}
 use Rattle.board.specs.Windows.{programWord}
 use Rattle.board.specs.Given.{Given}
 use Rattle.steps.specs.Table.{decodedAt}
 use Rattle.laws.specs.Steps.{_and_}
-use Rattle.ranges.specs.Fields.{NextFits, IndirectFits, AddressFits, DecodedFits}
+use Rattle.ranges.specs.Fields.{NextFits, IndirectFits, AddressFits, FieldsFit, DecodedFits}
 
 next-fits : (low : ℕ) → NextFits (nextOf low)
 unfolding nextOf
@@ -166,25 +165,37 @@ mode-pages =
     and no-field
     and tt
 
--- the pages that are not built have no instruction, whatever the word
-allUnbuilt : List Page → ℕ → Bool
-allUnbuilt [] w = true
-allUnbuilt (r ∷ rs) w = both (isUnbuilt (means r w)) (allUnbuilt rs w)
+-- of what a page makes of a word: its fields, before the others', where it is built
+OthersAfter : Decoded → Type 0 → Type 0
+OthersAfter (Built i) others = FieldsFit i × others
+OthersAfter Unbuilt others = others
+OthersAfter Nothing others = others
 
-unbuilt-fits : (d : Decoded) → T (isUnbuilt d) → DecodedFits d
-unbuilt-fits (Built i) t = absurd t
-unbuilt-fits Unbuilt t = tt
-unbuilt-fits Nothing t = tt
+-- what is to be shown of a list of pages at a word: the fields of those that are built
+BuiltFit : List Page → ℕ → Type 0
+BuiltFit [] w = Unit {0}
+BuiltFit (r ∷ rs) w = OthersAfter (means r w) (BuiltFit rs w)
 
-others-fit : (rs : List Page) → ((w : ℕ) → T (allUnbuilt rs w)) → RowsFit rs
-unfolding RowsFit allUnbuilt
-others-fit [] t = tt
-others-fit (r ∷ rs) t =
-    (λ w. unbuilt-fits (means r w) (both-left (isUnbuilt (means r w)) (allUnbuilt rs w) (t w)))
-    and others-fit rs (λ w. both-right (isUnbuilt (means r w)) (allUnbuilt rs w) (t w))
+this-fits : (d : Decoded) (others : Type 0) → OthersAfter d others → DecodedFits d
+unfolding OthersAfter
+this-fits (Built i) others f = f .0
+this-fits Unbuilt others f = tt
+this-fits Nothing others f = tt
 
+others-after : (d : Decoded) (others : Type 0) → OthersAfter d others → others
+unfolding OthersAfter
+others-after (Built i) others f = f .1
+others-after Unbuilt others f = f
+others-after Nothing others f = f
+
+others-fit : (rs : List Page) → ((w : ℕ) → BuiltFit rs w) → RowsFit rs
+unfolding RowsFit BuiltFit
+others-fit [] f = tt
+others-fit (r ∷ rs) f = (λ w. this-fits (means r w) (BuiltFit rs w) (f w)) and others-fit rs (λ w. others-after (means r w) (BuiltFit rs w) (f w))
+
+-- a line for each page not in the base that is built, in the order of the list
 other-pages : RowsFit otherPages
-unfolding allUnbuilt
+unfolding BuiltFit OthersAfter
 other-pages = others-fit otherPages (λ w. tt)
 
 pages-fit : RowsFit pages
