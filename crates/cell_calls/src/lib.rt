@@ -6,9 +6,9 @@ ghost use Rattle.cells.specs.Checks.{lengthAnswer, cellsAnswer, cellsAfter};
 use answers::Answer;
 use answers::is_done;
 use answers::number_of;
-use cell_storing::put_cells;
-use cells::cells_answer;
-use cells::length_answer;
+use cells::checking::cells_answer;
+use cells::checking::length_answer;
+use cells::storing::put_cells;
 use machine::Machine;
 
 // Whether the cells pass the checks.

@@ -1,18 +1,19 @@
 -- The cells of a machine are its own, each in its own place: reading them back gives the machine, and a machine read from cells that pass the checks has those cells.
 use mathlib.Core.Path.{_≡_, refl, sym, ap, _∙_}
 use mathlib.Core.Bool.{Bool, true, false, _&&_, false≢true}
-use mathlib.Core.List.{List, [], _∷_}
-use Prim.Native.Nat.{ℕ, zero, suc, _+_, _%_, _≤_, _<_}
+use mathlib.Core.List.{List, [], _∷_, _++_}
+use Prim.Native.Nat.{ℕ, zero, suc, _+_, _%_, _^_, _≤_, _<_}
 use native.Mathlib.Omega.{arith}
 use lib.Dec.{leb, ltb}
-use lib.ListN.{length, drop, getD}
+use lib.ListN.{length, drop, getD, replicate}
 use lib.Seq.{drop-cons, drop-length}
 use native.Mathlib.Nat.{mod-eq-of-lt}
 use borrow.Author.Tests.{leb-true, ltb-true, ltb-false}
+use Rattle.machine.specs.Table.{Cell, cells, cellCount}
 use Rattle.answers.specs.Numbers.{isDone}
-use Rattle.cells.specs.Cells.{firstCells, pointerCells, cursorCells, cellsOf, eightAt, machineFrom, machineOf}
+use Rattle.cells.specs.Cells.{cellsOf, machineFrom, machineOf}
 use Rattle.cells.specs.Checks.{limits, withinLimits, cellsAnswer}
-use Rattle.cells.specs.CheckLaws.{cells-kept, machine-of-34}
+use Rattle.cells.specs.CheckLaws.{cells-kept, machine-of-all}
 
 -- ---- every cell at most its limit
 
@@ -52,13 +53,12 @@ elements-all cells (suc n) i h =
     drop-cons cells i 0 (omega arith) ∙ ap (λ (rest : List ℕ). getD cells i 0 ∷ rest) (elements-all cells n (suc i) (omega arith))
 
 -- how many numbers the field of each cell holds
+widthsOf : List Cell → List ℕ
+widthsOf [] = []
+widthsOf (c ∷ cs) = replicate (c .count) (2 ^ c .bits) ++ widthsOf cs
+
 widths : List ℕ
-widths =
-    4294967296 ∷ 4294967296 ∷ 65536 ∷ 65536 ∷ 65536
-    ∷ 65536 ∷ 65536 ∷ 65536 ∷ 65536 ∷ 65536 ∷ 65536 ∷ 65536 ∷ 65536
-    ∷ 256 ∷ 256 ∷ 65536 ∷ 256 ∷ 256 ∷ 256 ∷ 256 ∷ 256 ∷ 256 ∷ 65536 ∷ 65536
-    ∷ 65536 ∷ 65536 ∷ 65536 ∷ 65536 ∷ 65536 ∷ 65536 ∷ 65536 ∷ 65536
-    ∷ 65536 ∷ 65536 ∷ []
+widths = widthsOf cells
 
 -- each limit is below its cell's width
 limitsHeld : ℕ → Bool
@@ -77,23 +77,23 @@ held : ℕ → ℕ → List ℕ → List ℕ
 held zero i cells = []
 held (suc n) i cells = getD cells i 0 % getD widths i 0 ∷ held n (suc i) cells
 
-held-same : (cells : List ℕ) → ((i : ℕ) → i < 34 → getD cells i 0 < getD widths i 0) → (n i : ℕ) → i + n ≤ 34 → held n i cells ≡ elements n i cells
+held-same : (cells : List ℕ) → ((i : ℕ) → i < cellCount → getD cells i 0 < getD widths i 0) → (n i : ℕ) → i + n ≤ cellCount → held n i cells ≡ elements n i cells
 unfolding held elements
 held-same cells f zero i h = refl
 held-same cells f (suc n) i h =
     rw (mod-eq-of-lt (f i (omega arith)), held-same cells f n (suc i) (omega arith))
 
-machine-held : (cells : List ℕ) → cellsOf (machineFrom cells) ≡ getD cells 0 0 ∷ getD cells 1 0 ∷ held 32 2 cells
-unfolding cellsOf machineFrom firstCells pointerCells cursorCells eightAt held widths
-machine-held cells = refl
+machine-held : (numbers : List ℕ) → cellsOf (machineFrom numbers) ≡ held cellCount 0 numbers
+unfolding cellsOf machineFrom held widths widthsOf
+machine-held numbers = refl
 
 -- a machine read from cells that pass the checks has those cells
 pub cells-machine : (cells : List ℕ) → isDone (cellsAnswer cells) ≡ true → cellsOf (machineOf cells) ≡ cells
-unfolding limits widths limitsHeld elements
+unfolding limits widths widthsOf limitsHeld elements
 cells-machine cells h =
     let k = cells-kept cells h in
-    let below : (i : ℕ) → i < 34 → getD cells i 0 < getD widths i 0 = λ i b. omega (arith, within-at cells 34 (k .within) i b, held-at 34 refl i b) in
-    ap cellsOf (machine-of-34 cells (k .count))
+    let below : (i : ℕ) → i < cellCount → getD cells i 0 < getD widths i 0 = λ i b. omega (arith, within-at cells cellCount (k .within) i b, held-at cellCount refl i b) in
+    ap cellsOf (machine-of-all cells (k .count))
     ∙ machine-held cells
-    ∙ ap (λ (rest : List ℕ). getD cells 0 0 ∷ getD cells 1 0 ∷ rest) (held-same cells below 32 2 (omega arith))
-    ∙ sym (elements-all cells 34 0 (sym (k .count)))
+    ∙ held-same cells below cellCount 0 (omega arith)
+    ∙ sym (elements-all cells cellCount 0 (sym (k .count)))

@@ -1,49 +1,25 @@
 -- The limits of the cells are check 1: cells that pass are those of a machine in range, and a machine's cells pass exactly where it is in range.
 use mathlib.Core.Path.{_≡_, refl, sym, ap, _∙_}
-use mathlib.Core.Bool.{Bool, true, false, cond, false≢true}
+use mathlib.Core.Bool.{Bool, true, false, cond, _&&_, false≢true}
 use mathlib.Core.List.{List, [], _∷_, _++_}
 use Prim.Native.Nat.{ℕ, zero, suc, _+_, _≤_, _<_}
 use native.Mathlib.Omega.{arith}
-use lib.ListN.{length, getD, replicate}
-use borrow.Author.Tests.{le-leb, eq-eqb}
+use lib.Dec.{eqb}
+use lib.ListN.{length, getD, replicate, length-replicate}
+use borrow.Author.Tests.{le-leb, eq-eqb, eqb-true}
 use Rattle.machine.specs.declared.Machine.{Machine}
+use Rattle.machine.specs.Table.{Cell, cells, cellCount, rowsOf}
 use Rattle.machine.specs.Reset.{resetMachine}
-use Rattle.machine.specs.Range.{inRange, Ranged}
-use Rattle.machine.specs.RangeLaws.{ranged, in-range}
-use Rattle.ranges.specs.Ranges.{WordSized}
-use Rattle.ranges.specs.Cells.{word-at}
+use Rattle.machine.specs.Range.{rowsInRange, inRange}
+use Rattle.machine.specs.Facts.{AllMost}
+use Rattle.machine.specs.RangeLaws.{rows-first, rows-more}
 use Rattle.answers.specs.declared.Answer.the-variants.{Done, CellOutOfRange}
 use Rattle.answers.specs.Numbers.{isDone}
-use Rattle.cells.specs.Cells.{firstCells, pointerCells, cursorCells, cellsOf, machineFrom, machineOf}
-use Rattle.cells.specs.Checks.{limits, withinLimits, cellsAnswer}
-use Rattle.cells.specs.CheckLaws.{cells-kept, machine-of-34}
-use Rattle.cell_storing.specs.StoreLaws.{cells-length}
-use Rattle.cell_laws.specs.CellLaws.{within-at}
-use Rattle.cell_laws.specs.BackLaws.{pointer-at, cursor-at}
-
--- the machine of cells that pass the checks passes check 1
-pub kept-in-range : (cells : List ℕ) → isDone (cellsAnswer cells) ≡ true → inRange (machineOf cells) ≡ true
-unfolding limits machineFrom
-kept-in-range cells h =
-    let k = cells-kept cells h in
-    let most = within-at cells 34 (k .within) in
-    rw (machine-of-34 cells (k .count))
-    (in-range (machineFrom cells)
-    (record {
-      arp = omega (arith, most 13 (omega arith));
-      arb = omega (arith, most 14 (omega arith));
-      dp = omega (arith, most 15 (omega arith));
-      pm = omega (arith, most 16 (omega arith));
-      ov = omega (arith, most 17 (omega arith));
-      ovm = omega (arith, most 18 (omega arith));
-      sxm = omega (arith, most 19 (omega arith));
-      c = omega (arith, most 20 (omega arith));
-      cnf = omega (arith, most 21 (omega arith));
-      mid = omega (arith, most 22 (omega arith));
-      rptc = omega (arith, most 23 (omega arith));
-      input-cursor = omega (arith, most 32 (omega arith));
-      output-cursor = omega (arith, most 33 (omega arith));
-    }))
+use Rattle.cells.specs.Cells.{joined, cellsOf, machineFrom, machineOf}
+use Rattle.cells.specs.Checks.{limitsOf, limits, withinLimits, cellsAnswer}
+use Rattle.cells.specs.CheckLaws.{cells-kept, machine-of-all}
+use Rattle.cells.specs.StoreLaws.{cells-length}
+use Rattle.cell_laws.specs.CellLaws.{within-at, cells-machine}
 
 -- ---- each number of a list at most that of another in its place
 
@@ -66,75 +42,105 @@ most-append (x ∷ xs) (k ∷ ks) ys js e f g = (f .0, most-append xs ks ys js (
 most-append [] (k ∷ ks) ys js e f g = absurd (omega arith)
 most-append (x ∷ xs) [] ys js e f g = absurd (omega arith)
 
-words-most : (l : List ℕ) (n : ℕ) → ((i : ℕ) → getD l i 0 < 65536) → AtMost l (replicate n 65535)
+most-split : (xs ks ys js : List ℕ) → length xs ≡ length ks → AtMost (xs ++ ys) (ks ++ js) → AtMost xs ks × AtMost ys js
 unfolding AtMost
-words-most l zero f = tt
-words-most [] (suc n) f = tt
-words-most (x ∷ l) (suc n) f = (omega (arith, f 0), words-most l n (λ i. f (suc i)))
+most-split [] [] ys js e f = (tt, f)
+most-split (x ∷ xs) (k ∷ ks) ys js e f = let rest = most-split xs ks ys js (omega arith) (f .1) in ((f .0, rest .0), rest .1)
+most-split [] (k ∷ ks) ys js e f = absurd (omega arith)
+most-split (x ∷ xs) [] ys js e f = absurd (omega arith)
 
-most-within : (cells : List ℕ) (n : ℕ) → ((i : ℕ) → i < n → getD cells i 0 ≤ getD limits i 0) → withinLimits n cells ≡ true
+most-by : (xs ks : List ℕ) → ((i : ℕ) → i < length ks → getD xs i 0 ≤ getD ks i 0) → AtMost xs ks
+unfolding AtMost
+most-by xs [] f = tt
+most-by [] (k ∷ ks) f = tt
+most-by (x ∷ xs) (k ∷ ks) f = (f 0 (omega arith), most-by xs ks (λ i below. f (suc i) (omega arith)))
+
+-- one limit for all
+each-at-most : (limit : ℕ) (row : List ℕ) → AllMost limit row → AtMost row (replicate (length row) limit)
+unfolding AtMost
+each-at-most limit [] h = tt
+each-at-most limit (x ∷ row) h = (h .0, each-at-most limit row (h .1))
+
+at-most-each : (limit : ℕ) (row : List ℕ) → AtMost row (replicate (length row) limit) → AllMost limit row
+unfolding AtMost
+at-most-each limit [] h = tt
+at-most-each limit (x ∷ row) h = (h .0, at-most-each limit row (h .1))
+
+most-within : (numbers : List ℕ) (n : ℕ) → ((i : ℕ) → i < n → getD numbers i 0 ≤ getD limits i 0) → withinLimits n numbers ≡ true
 unfolding withinLimits
-most-within cells zero f = refl
-most-within cells (suc n) f =
-    simp (most-within cells n (λ i below. f i (omega arith)), le-leb _ _ (f n (omega arith)))
+most-within numbers zero f = refl
+most-within numbers (suc n) f =
+    simp (most-within numbers n (λ i below. f i (omega arith)), le-leb _ _ (f n (omega arith)))
 
-module _ (m : Machine) (h : WordSized m) where
-  first-most : AtMost (firstCells m) (4294967295 ∷ 4294967295 ∷ 65535 ∷ 65535 ∷ 65535 ∷ [])
-  unfolding AtMost firstCells
-  first-most =
-      (omega (arith, h .acc), (omega (arith, h .p), (omega (arith, h .t), (omega (arith, h .pc), (omega (arith, h .pfc), tt)))))
+-- ---- the rows of a machine against its cells
 
-  pointers-most : Ranged m → AtMost (pointerCells m) (7 ∷ 7 ∷ 511 ∷ 3 ∷ 1 ∷ 1 ∷ 1 ∷ 1 ∷ 1 ∷ 1 ∷ 255 ∷ [])
-  unfolding AtMost pointerCells
-  pointers-most r =
-      (r .arp, (r .arb, (r .dp, (r .pm, (r .ov, (r .ovm, (r .sxm, (r .c, (r .cnf, (r .mid, (r .rptc, tt)))))))))))
+rows-most : (cs : List Cell) (rows : List (List ℕ)) → rowsInRange cs rows ≡ true → AtMost (joined rows) (limitsOf cs)
+unfolding AtMost
+rows-most [] rows h = tt
+rows-most (c ∷ cs) [] h = absurd (false≢true h)
+rows-most (c ∷ cs) (row ∷ rows) h =
+    let k = rows-first c row cs rows h in
+    let most : AtMost row (replicate (c .count) (c .largest)) = rw (k .row-count) at (each-at-most (c .largest) row (k .row-most)) in
+    most-append row (replicate (c .count) (c .largest)) (joined rows) (limitsOf cs) (k .row-count ∙ sym (length-replicate (c .count) (c .largest))) most
+    (rows-most cs rows (k .rows-kept))
 
-  cursors-most : Ranged m → AtMost (cursorCells m) (1024 ∷ 1024 ∷ [])
-  unfolding AtMost cursorCells
-  cursors-most r = (r .input-cursor, (r .output-cursor, tt))
+-- each row has as many words as its cell
+countsKept : List Cell → List (List ℕ) → Bool
+countsKept [] rows = true
+countsKept (c ∷ cs) [] = false
+countsKept (c ∷ cs) (row ∷ rows) = eqb (length row) (c .count) && countsKept cs rows
 
-  cells-most : Ranged m → AtMost (cellsOf m) limits
-  unfolding cellsOf limits firstCells pointerCells
-  cells-most r =
-      most-append (firstCells m) (4294967295 ∷ 4294967295 ∷ 65535 ∷ 65535 ∷ 65535 ∷ []) _ _ refl first-most
-      (most-append (m .ar) (replicate 8 65535) _ _ (h .ar-count) (words-most (m .ar) 8 (λ k. word-at (m .ar) k (h .ar)))
-      (most-append (pointerCells m) (7 ∷ 7 ∷ 511 ∷ 3 ∷ 1 ∷ 1 ∷ 1 ∷ 1 ∷ 1 ∷ 1 ∷ 255 ∷ []) _ _ refl (pointers-most r)
-      (most-append (m .stack .words) (replicate 8 65535) _ _ (h .stack-count) (words-most (m .stack .words) 8 (λ k. word-at (m .stack .words) k (h .stack))) (cursors-most r))))
+first-count : (c : Cell) (row : List ℕ) (cs : List Cell) (rows : List (List ℕ)) → countsKept (c ∷ cs) (row ∷ rows) ≡ true → (length row ≡ c .count) × (countsKept cs rows ≡ true)
+unfolding countsKept
+first-count c row cs rows h = by (eqb (length row) (c .count)) refl h
+  where
+    by : (t : Bool) → eqb (length row) (c .count) ≡ t → t && countsKept cs rows ≡ true → (length row ≡ c .count) × (countsKept cs rows ≡ true)
+    by true e h = (eqb-true _ _ e, h)
+    by false e h = absurd (false≢true h)
 
-  within-ranged : withinLimits 34 (cellsOf m) ≡ true → inRange m ≡ true
-  unfolding limits pointerCells cursorCells
-  within-ranged w =
-      let most = within-at (cellsOf m) 34 w in
-      in-range m
-      (record {
-        arp = rw (pointer-at m h 0) at (most 13 (omega arith));
-        arb = rw (pointer-at m h 1) at (most 14 (omega arith));
-        dp = rw (pointer-at m h 2) at (most 15 (omega arith));
-        pm = rw (pointer-at m h 3) at (most 16 (omega arith));
-        ov = rw (pointer-at m h 4) at (most 17 (omega arith));
-        ovm = rw (pointer-at m h 5) at (most 18 (omega arith));
-        sxm = rw (pointer-at m h 6) at (most 19 (omega arith));
-        c = rw (pointer-at m h 7) at (most 20 (omega arith));
-        cnf = rw (pointer-at m h 8) at (most 21 (omega arith));
-        mid = rw (pointer-at m h 9) at (most 22 (omega arith));
-        rptc = rw (pointer-at m h 10) at (most 23 (omega arith));
-        input-cursor = rw (cursor-at m h 0) at (most 32 (omega arith));
-        output-cursor = rw (cursor-at m h 1) at (most 33 (omega arith));
-      })
+most-rows : (cs : List Cell) (rows : List (List ℕ)) → countsKept cs rows ≡ true → AtMost (joined rows) (limitsOf cs) → rowsInRange cs rows ≡ true
+unfolding countsKept
+most-rows [] rows n h = refl
+most-rows (c ∷ cs) [] n h = absurd (false≢true n)
+most-rows (c ∷ cs) (row ∷ rows) n h =
+    let counts = first-count c row cs rows n in
+    let split = most-split row (replicate (c .count) (c .largest)) (joined rows) (limitsOf cs) (counts .0 ∙ sym (length-replicate (c .count) (c .largest))) h in
+    let most : AtMost row (replicate (length row) (c .largest)) = rw (counts .0) (split .0) in
+    rows-more c row cs rows (record { row-count = counts .0; row-most = at-most-each (c .largest) row most; rows-kept = most-rows cs rows (counts .1) (split .1) })
 
-  -- a machine's cells pass exactly where it passes check 1, and are answered by 1 elsewhere
-  pub machine-checked : cellsAnswer (cellsOf m) ≡ cond (inRange m) Done CellOutOfRange
-  unfolding cellsAnswer limits
-  machine-checked =
-      simp (eq-eqb _ _ (cells-length m (h .ar-count) (h .stack-count)))
-      (ap (λ (t : Bool). cond t Done CellOutOfRange) (by (inRange m) refl (withinLimits 34 (cellsOf m)) refl))
-    where
-      by : (r : Bool) → inRange m ≡ r → (w : Bool) → withinLimits 34 (cellsOf m) ≡ w → withinLimits 34 (cellsOf m) ≡ inRange m
-      by true e w f = most-within (cellsOf m) 34 (most-at (cellsOf m) limits (cells-most (ranged m e))) ∙ sym e
-      by false e false f = f ∙ sym e
-      by false e true f = absurd (false≢true (sym e ∙ within-ranged f))
+module _ (m : Machine) (n : countsKept cells (rowsOf m) ≡ true) where
+  within-ranged : withinLimits cellCount (cellsOf m) ≡ true → inRange m ≡ true
+  unfolding inRange cellsOf limits
+  within-ranged w = most-rows cells (rowsOf m) n (most-by (cellsOf m) limits (within-at (cellsOf m) cellCount w))
+
+  ranged-within : inRange m ≡ true → withinLimits cellCount (cellsOf m) ≡ true
+  unfolding inRange cellsOf limits
+  ranged-within h = most-within (cellsOf m) cellCount (most-at (cellsOf m) limits (rows-most cells (rowsOf m) h))
+
+-- the machine of cells that pass the checks passes check 1
+pub kept-in-range : (cells : List ℕ) → isDone (cellsAnswer cells) ≡ true → inRange (machineOf cells) ≡ true
+unfolding countsKept machineFrom
+kept-in-range cells h =
+    let k = cells-kept cells h in
+    let e = machine-of-all cells (k .count) in
+    rw e (within-ranged (machineFrom cells) refl (rw (← e, cells-machine cells h) (k .within)))
+
+-- a machine's cells pass exactly where it passes check 1, and are answered by 1 elsewhere; AR and the stack are of eight words, as their types say
+pub machine-checked : (m : Machine) → length (m .ar) ≡ 8 → length (m .stack .words) ≡ 8 → cellsAnswer (cellsOf m) ≡ cond (inRange m) Done CellOutOfRange
+unfolding cellsAnswer countsKept
+machine-checked m a s =
+    simp (eq-eqb _ _ (cells-length m a s))
+    (ap (λ (t : Bool). cond t Done CellOutOfRange) (by (inRange m) refl (withinLimits cellCount (cellsOf m)) refl))
+  where
+    counts : countsKept cells (rowsOf m) ≡ true
+    counts = rw (eq-eqb _ _ a, eq-eqb _ _ s) refl
+
+    by : (r : Bool) → inRange m ≡ r → (w : Bool) → withinLimits cellCount (cellsOf m) ≡ w → withinLimits cellCount (cellsOf m) ≡ inRange m
+    by true e w f = ranged-within m counts e ∙ sym e
+    by false e false f = f ∙ sym e
+    by false e true f = absurd (false≢true (sym e ∙ within-ranged m counts f))
 
 -- the cells after reset pass
 pub reset-passes : cellsAnswer (cellsOf resetMachine) ≡ Done
-unfolding cellsAnswer withinLimits limits cellsOf firstCells pointerCells cursorCells resetMachine
+unfolding cellsAnswer withinLimits limits cellsOf resetMachine
 reset-passes = refl

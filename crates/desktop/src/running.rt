@@ -11,7 +11,7 @@ use cell_calls::put_run;
 use cell_calls::put_step;
 use cell_calls::refused_run;
 use cell_calls::reset_cells;
-use cell_reading::machine_of;
+use cells::reading::machine_of;
 use emulator::run;
 use emulator::step;
 

@@ -25,7 +25,7 @@ use Rattle.fetching.specs.ByTable.{fetchPlanBy}
 use Rattle.fetching.specs.TableLaws.{fetch-by-kinds}
 use Rattle.steps.specs.StepLaws.{step-fits, Running, running-begins, running-goes, running-ends}
 use Rattle.steps.specs.RowLaws.{Refusals, all-refuse, none-from, row-not, plan-done, plan-by-first}
-use Rattle.ranges.specs.Ranges.{WordsFit, WordSized, WorldInRange}
+use Rattle.ranges.specs.Ranges.{WordsFit, WorldInRange}
 use Rattle.ranges.specs.Operands.{program-word-lt}
 use Rattle.ranges.specs.Steps.{step-in-range}
 use Rattle.ranges.specs.Runs.{checks-done}
@@ -96,7 +96,7 @@ module _ (g : Given) where
     pub going-ends : budget ≤ k → record { world = w; steps = k; answer = Done } ≡ runOf g budget w₀
     going-ends l = rw (← going-checks) (running-ends g budget w₀ w k (going .running) l)
 
--- ---- what the types of lent words and cells tell
+-- ---- what the types of lent words tell
 
 pub words-fit : (l : List ℕ) → ((i : ℕ) → getD l i 0 < 2 ^ 16) → WordsFit l
 words-fit [] f = tt
@@ -104,12 +104,12 @@ words-fit (x ∷ l) f = (f 0, words-fit l (λ i. f (suc i)))
 
 module _ (g : Given) (budget : ℕ) (w : World) where
   pub going-begins : checksOf g (w .«data») (length (w .output)) (w .m) ≡ Done
-      → WordSized (w .m) → WordsFit (g .rom) → WordsFit (g .input) → WordsFit (w .«data») → WordsFit (w .output) → Going g budget w w 0
-  going-begins e sized r i d o =
+      → WordsFit (g .rom) → WordsFit (g .input) → WordsFit (w .«data») → WordsFit (w .output) → Going g budget w w 0
+  going-begins e r i d o =
       let b = checked-by g (w .«data») (length (w .output)) (w .m) e in
       record {
         running = running-begins g budget w;
-        in-range = record { in-range = b .0; slices-fit = b .1; sized = sized; rom-words = r; input-words = i; data-words = d; output-words = o };
+        in-range = record { in-range = b .0; slices-fit = b .1; rom-words = r; input-words = i; data-words = d; output-words = o };
       }
 
 -- ---- a run of one step is that step

@@ -11,7 +11,7 @@ use Rattle.alu.specs.Registers.{wrappedSum}
 use Rattle.machine.specs.declared.Machine.{Machine}
 use Rattle.machine.specs.Cells.{withPc, withMid, withRptc}
 use Rattle.machine.specs.Range.{inRange}
-use Rattle.machine.specs.RangeLaws.{ranged, in-range}
+use Rattle.machine.specs.RangeLaws.{ranged, in-range, most, put-within}
 use Rattle.answers.specs.declared.Answer.the-variants.{Done}
 use Rattle.instructions.specs.declared.Instruction.{Instruction}
 use Rattle.instructions.specs.declared.Instruction.the-variants as Family
@@ -272,21 +272,7 @@ module _ (g : Given) (w : World) (i : Instruction) (d : decodedAt g (w .«data»
   none-recounted o =
       let rows = tableFor (Built i) g (w .«data») (length (w .output)) (w .m) in
       let r = ranged (w .m) (not-false _ (row-not rows "1" o)) in
-      let fits : inRange (withRptc (w .m) n) ≡ true = in-range (withRptc (w .m) n) (record {
-        arp = r .arp;
-        arb = r .arb;
-        dp = r .dp;
-        pm = r .pm;
-        ov = r .ov;
-        ovm = r .ovm;
-        sxm = r .sxm;
-        c = r .c;
-        cnf = r .cnf;
-        mid = r .mid;
-        rptc = l;
-        input-cursor = r .input-cursor;
-        output-cursor = r .output-cursor;
-      }) in
+      let fits : inRange (withRptc (w .m) n) ≡ true = in-range (withRptc (w .m) n) (put-within r "RPTC" l) in
       ap not fits
       and row-not rows "2" o
       and row-not rows "5 for the first word" o
@@ -328,7 +314,7 @@ module _ (g : Given) (w : World) (i : Instruction) (d : decodedAt g (w .«data»
 
   in-bounds : w .m .rptc ≤ 255
   unfolding tableFor checkRows
-  in-bounds = ranged (w .m) (not-false _ (row-not (rowsOf g w) "1" (row-given g w .done-only e))) .rptc
+  in-bounds = most (ranged (w .m) (not-false _ (row-not (rowsOf g w) "1" (row-given g w .done-only e)))) "RPTC"
 
   pass-works : PassWorks g w i
   unfolding afterStore performed

@@ -1,105 +1,107 @@
--- The cells of the machine: a setter for each, and a reader and a setter for one auxiliary register.
-use mathlib.Core.Bool.{Bool, true, false}
+-- A machine by its cells: a setter for each, and a reader and a setter for one auxiliary register.
 use mathlib.Core.List.{List}
 use Prim.Native.Nat.{ℕ}
-use lib.Dec.{eqb}
+use Prim.Native.String.{String}
 use lib.ListN.{getD, set}
+use lib.Text.{eqt}
 use Rattle.stack.specs.declared.Stack.{Stack}
 use Rattle.machine.specs.declared.Machine.{Machine}
+use Rattle.machine.specs.Table.{chosen}
 
--- x in the cell that is set; any other keeps what it held
-abbrev chosen : Bool → ℕ → ℕ → ℕ
-chosen true x held = x
-chosen false x held = held
-
--- The machine with this stack and these auxiliary registers, and x in the cell of number k; every other cell is as it was. The number 0 is no cell's.
-abbrev rebuilt : Machine → Stack → List ℕ → ℕ → ℕ → Machine
-rebuilt m s registers k x =
+-- A machine by its cells: for each name what the cell holds, a number or, for AR and the stack, words. With the name comes the field, for a cell that
+-- is to keep what another machine holds in it.
+abbrev pub built : (String → (Machine → ℕ) → ℕ) → (String → (Machine → List ℕ) → List ℕ) → Machine
+built number words =
     record {
-      stack = s;
-      acc = chosen (eqb k 1) x (m .acc);
-      p = chosen (eqb k 2) x (m .p);
-      t = chosen (eqb k 3) x (m .t);
-      pc = chosen (eqb k 4) x (m .pc);
-      pfc = chosen (eqb k 5) x (m .pfc);
-      ar = registers;
-      arp = chosen (eqb k 6) x (m .arp);
-      arb = chosen (eqb k 7) x (m .arb);
-      dp = chosen (eqb k 8) x (m .dp);
-      pm = chosen (eqb k 9) x (m .pm);
-      ov = chosen (eqb k 10) x (m .ov);
-      ovm = chosen (eqb k 11) x (m .ovm);
-      sxm = chosen (eqb k 12) x (m .sxm);
-      c = chosen (eqb k 13) x (m .c);
-      cnf = chosen (eqb k 14) x (m .cnf);
-      mid = chosen (eqb k 15) x (m .mid);
-      rptc = chosen (eqb k 16) x (m .rptc);
-      «input_cursor» = chosen (eqb k 17) x (m .«input_cursor»);
-      «output_cursor» = chosen (eqb k 18) x (m .«output_cursor»);
+      stack = record { words = words "stack" (λ m. m .stack .words) };
+      acc = number "ACC" (λ m. m .acc);
+      p = number "P" (λ m. m .p);
+      t = number "T" (λ m. m .t);
+      pc = number "PC" (λ m. m .pc);
+      pfc = number "PFC" (λ m. m .pfc);
+      ar = words "AR" (λ m. m .ar);
+      arp = number "ARP" (λ m. m .arp);
+      arb = number "ARB" (λ m. m .arb);
+      dp = number "DP" (λ m. m .dp);
+      pm = number "PM" (λ m. m .pm);
+      ov = number "OV" (λ m. m .ov);
+      ovm = number "OVM" (λ m. m .ovm);
+      sxm = number "SXM" (λ m. m .sxm);
+      c = number "C" (λ m. m .c);
+      cnf = number "CNF" (λ m. m .cnf);
+      mid = number "MID" (λ m. m .mid);
+      rptc = number "RPTC" (λ m. m .rptc);
+      «input_cursor» = number "input cursor" (λ m. m .«input_cursor»);
+      «output_cursor» = number "output cursor" (λ m. m .«output_cursor»);
     }
 
-abbrev put : Machine → ℕ → ℕ → Machine
-put m k x = rebuilt m (m .stack) (m .ar) k x
+-- x in the single cell of this name; every other cell keeps what it held
+abbrev pub put : String → Machine → ℕ → Machine
+put name m x = built (λ n field. chosen (eqt n name) x (field m)) (λ n field. field m)
+
+-- the same of the words of AR or of the stack
+abbrev pub putWords : String → Machine → List ℕ → Machine
+putWords name m words = built (λ n field. field m) (λ n field. chosen (eqt n name) words (field m))
 
 abbrev pub withStack : Machine → Stack → Machine
-withStack m s = rebuilt m s (m .ar) 0 0
+withStack m s = putWords "stack" m (s .words)
 
 abbrev pub withAcc : Machine → ℕ → Machine
-withAcc m x = put m 1 x
+withAcc m x = put "ACC" m x
 
 abbrev pub withP : Machine → ℕ → Machine
-withP m x = put m 2 x
+withP m x = put "P" m x
 
 abbrev pub withT : Machine → ℕ → Machine
-withT m x = put m 3 x
+withT m x = put "T" m x
 
 abbrev pub withPc : Machine → ℕ → Machine
-withPc m x = put m 4 x
+withPc m x = put "PC" m x
 
 abbrev pub withPfc : Machine → ℕ → Machine
-withPfc m x = put m 5 x
+withPfc m x = put "PFC" m x
 
 abbrev pub withAr : Machine → List ℕ → Machine
-withAr m registers = rebuilt m (m .stack) registers 0 0
+withAr m registers = putWords "AR" m registers
 
 abbrev pub withArp : Machine → ℕ → Machine
-withArp m x = put m 6 x
+withArp m x = put "ARP" m x
 
 abbrev pub withArb : Machine → ℕ → Machine
-withArb m x = put m 7 x
+withArb m x = put "ARB" m x
 
 abbrev pub withDp : Machine → ℕ → Machine
-withDp m x = put m 8 x
+withDp m x = put "DP" m x
 
 abbrev pub withPm : Machine → ℕ → Machine
-withPm m x = put m 9 x
+withPm m x = put "PM" m x
 
 abbrev pub withOv : Machine → ℕ → Machine
-withOv m x = put m 10 x
+withOv m x = put "OV" m x
 
 abbrev pub withOvm : Machine → ℕ → Machine
-withOvm m x = put m 11 x
+withOvm m x = put "OVM" m x
 
 abbrev pub withSxm : Machine → ℕ → Machine
-withSxm m x = put m 12 x
+withSxm m x = put "SXM" m x
 
 abbrev pub withC : Machine → ℕ → Machine
-withC m x = put m 13 x
+withC m x = put "C" m x
 
 abbrev pub withCnf : Machine → ℕ → Machine
-withCnf m x = put m 14 x
+withCnf m x = put "CNF" m x
 
 abbrev pub withMid : Machine → ℕ → Machine
-withMid m x = put m 15 x
+withMid m x = put "MID" m x
 
 abbrev pub withRptc : Machine → ℕ → Machine
-withRptc m x = put m 16 x
+withRptc m x = put "RPTC" m x
 
 abbrev pub withInputCursor : Machine → ℕ → Machine
-withInputCursor m x = put m 17 x
+withInputCursor m x = put "input cursor" m x
 
 abbrev pub withOutputCursor : Machine → ℕ → Machine
-withOutputCursor m x = put m 18 x
+withOutputCursor m x = put "output cursor" m x
 
 -- auxiliary register i
 abbrev pub register : Machine → ℕ → ℕ

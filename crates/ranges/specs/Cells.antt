@@ -1,11 +1,18 @@
--- The cells of a machine with their limits, and what each setter keeps below them: proofs.
-use mathlib.Core.Path.{_≡_, refl, sym, _∙_, subst}
+-- The cells of a machine within their ranges, and what each setter keeps: proofs.
+use mathlib.Core.Path.{_≡_, refl, _∙_}
+use mathlib.Core.Bool.{Bool, true, false}
 use mathlib.Core.List.{List, [], _∷_, _++_}
-use Prim.Native.Nat.{ℕ, zero, suc, _+_, _^_, _<_}
+use Prim.Native.Nat.{ℕ, zero, suc, _^_, _≤_, _<_}
+use Prim.Native.String.{String}
 use native.Mathlib.Omega.{arith}
+use lib.Dec.{T}
 use lib.ListN.{length, take, drop, getD, set, length-set}
+use lib.Text.{eqt, eqt→eq}
 use Rattle.machine.specs.declared.Machine.{Machine}
-use Rattle.machine.specs.Cells.{withAcc, withP, withT, withPc, withPfc, withArp, withArb, withDp, withPm, withOv, withOvm, withSxm, withC, withCnf, withMid, withRptc, withInputCursor, withOutputCursor, withRegister}
+use Rattle.machine.specs.Table.{chosen}
+use Rattle.machine.specs.Cells.{put, putWords, withRegister}
+use Rattle.machine.specs.Facts.{largestOf, wordsIn, numberIn, AllMost, Ranged}
+use Rattle.machine.specs.RangeLaws.{words-most, words-count, word-most, most, put-within, put-words-within}
 use Rattle.stack.specs.Stack.{pushOf, popOf, topOf}
 use Rattle.machine.specs.Stack.{pushOn, popOn}
 use Rattle.stack.specs.StackLaws.{push-length, pop-length}
@@ -33,173 +40,106 @@ words-drop zero l f = f
 words-drop (suc n) [] f = tt
 words-drop (suc n) (x ∷ l) f = words-drop n l (f .1)
 
+pub fit-most : (l : List ℕ) → WordsFit l → AllMost 65535 l
+fit-most [] f = tt
+fit-most (x ∷ l) f = (omega (arith, f .0), fit-most l (f .1))
+
+pub most-fit : (l : List ℕ) → AllMost 65535 l → WordsFit l
+most-fit [] f = tt
+most-fit (x ∷ l) f = (omega (arith, f .0), most-fit l (f .1))
+
 words-append : (l k : List ℕ) → WordsFit l → WordsFit k → WordsFit (l ++ k)
 words-append [] k f g = g
 words-append (x ∷ l) k f g = (f .0, words-append l k (f .1) g)
 
--- ---- cells and their limits
+-- ---- cells within their ranges
 
--- each cell with the number that it is below, where the input has i words and the output o
-abbrev cells : ℕ → ℕ → Machine → List (ℕ × ℕ)
-cells i o m =
-    (m .acc, 2 ^ 32) ∷
-    (m .p, 2 ^ 32) ∷
-    (m .t, 2 ^ 16) ∷
-    (m .pc, 2 ^ 16) ∷
-    (m .pfc, 2 ^ 16) ∷
-    (m .arp, 8) ∷
-    (m .arb, 8) ∷
-    (m .dp, 512) ∷
-    (m .pm, 4) ∷
-    (m .ov, 2) ∷
-    (m .ovm, 2) ∷
-    (m .sxm, 2) ∷
-    (m .c, 2) ∷
-    (m .cnf, 2) ∷
-    (m .mid, 2) ∷
-    (m .rptc, 256) ∷
-    (m .«input_cursor», i + 1) ∷
-    (m .«output_cursor», o + 1) ∷
-    []
-
-abbrev AllBelow : List (ℕ × ℕ) → Type 0
-AllBelow [] = Unit {0}
-AllBelow (e ∷ es) = (e .0 < e .1) × AllBelow es
-
-abbrev replaced : List (ℕ × ℕ) → ℕ → ℕ → List (ℕ × ℕ)
-replaced [] k x = []
-replaced (e ∷ es) zero x = (x, e .1) ∷ es
-replaced (e ∷ es) (suc k) x = e ∷ replaced es k x
-
-abbrev limitAt : List (ℕ × ℕ) → ℕ → ℕ
-limitAt [] k = 1
-limitAt (e ∷ es) zero = e .1
-limitAt (e ∷ es) (suc k) = limitAt es k
-
-abbrev valueAt : List (ℕ × ℕ) → ℕ → ℕ
-valueAt [] k = 0
-valueAt (e ∷ es) zero = e .0
-valueAt (e ∷ es) (suc k) = valueAt es k
-
-below-at : (l : List (ℕ × ℕ)) (k : ℕ) → AllBelow l → valueAt l k < limitAt l k
-below-at [] k b = omega arith
-below-at (e ∷ es) zero b = b .0
-below-at (e ∷ es) (suc k) b = below-at es k (b .1)
-
-put-below : (l : List (ℕ × ℕ)) (k x : ℕ) → AllBelow l → x < limitAt l k → AllBelow (replaced l k x)
-put-below [] k x b h = tt
-put-below (e ∷ es) zero x b h = (h, b .1)
-put-below (e ∷ es) (suc k) x b h = (b .0, put-below es k x (b .1) h)
-
+-- the machine passes check 1, and its cursors are within an input of i words and an output of o
 pub record Fits (i o : ℕ) (m : Machine) : Type 0 where
-  pub below : AllBelow (cells i o m)
-  pub ar : WordsFit (m .ar)
-  pub ar-count : length (m .ar) ≡ 8
-  pub stack : WordsFit (m .stack .words)
-  pub stack-count : length (m .stack .words) ≡ 8
+  pub ranged : Ranged m
+  pub reads : m .«input_cursor» ≤ i
+  pub sends : m .«output_cursor» ≤ o
+  pub input-most : i ≤ 1024
+  pub output-most : o ≤ 1024
+
+-- the largest number of the cell of this name, with these cursors
+abbrev pub limitIn : ℕ → ℕ → String → ℕ
+limitIn i o name = chosen (eqt name "input cursor") i (chosen (eqt name "output cursor") o (largestOf name))
+
+limit-most : {i o : ℕ} → i ≤ 1024 → o ≤ 1024 → (name : String) → limitIn i o name ≤ largestOf name
+limit-most {i} {o} hi ho name = by (eqt name "input cursor") (eqt→eq name "input cursor") (eqt name "output cursor") (eqt→eq name "output cursor")
+  where
+    by : (s : Bool) → (T s → name ≡ "input cursor") → (t : Bool) → (T t → name ≡ "output cursor") → chosen s i (chosen t o (largestOf name)) ≤ largestOf name
+    by true e t d = rw (e tt) hi
+    by false e true d = rw (d tt) ho
+    by false e false d = omega arith
+
+-- a cursor after a number was put into the cell of a name
+cursor-kept : (cursor name : String) (limit : String → ℕ) (x held : ℕ) → held ≤ limit cursor → x ≤ limit name → chosen (eqt cursor name) x held ≤ limit cursor
+cursor-kept cursor name limit x held h k = by (eqt cursor name) (eqt→eq cursor name)
+  where
+    by : (t : Bool) → (T t → cursor ≡ name) → chosen t x held ≤ limit cursor
+    by true e = rw (e tt) k
+    by false e = h
+
+-- each setter of a single cell, where the new number is within the cell's limit
+pub set-cell : (name : String) {i o : ℕ} {m : Machine} → Fits i o m → {x : ℕ} → x < suc (limitIn i o name) → Fits i o (put name m x)
+set-cell name {i} {o} {m} f {x} h =
+    let k : x ≤ limitIn i o name = omega (arith, h) in
+    record {
+      ranged = put-within (f .ranged) name (omega (arith, k, limit-most (f .input-most) (f .output-most) name));
+      reads = cursor-kept "input cursor" name (limitIn i o) x (m .«input_cursor») (f .reads) k;
+      sends = cursor-kept "output cursor" name (limitIn i o) x (m .«output_cursor») (f .sends) k;
+      input-most = f .input-most;
+      output-most = f .output-most;
+    }
 
 module _ {i o : ℕ} {m : Machine} (f : Fits i o m) where
-  -- another machine, which differs in the cell k alone
-  set-cell : (n : Machine) (k x : ℕ) → cells i o n ≡ replaced (cells i o m) k x → n .ar ≡ m .ar → n .stack ≡ m .stack → x < limitAt (cells i o m) k → Fits i o n
-  set-cell n k x e a s h = record {
-    below = subst (λ (l : List (ℕ × ℕ)). AllBelow l) (sym e) (put-below (cells i o m) k x (f .below) h);
-    ar = rw a (f .ar);
-    ar-count = rw a (f .ar-count);
-    stack = rw s (f .stack);
-    stack-count = rw s (f .stack-count);
-  }
-
-  module _ {x : ℕ} where
-    pub set-acc : x < 2 ^ 32 → Fits i o (withAcc m x)
-    set-acc h = set-cell (withAcc m x) 0 x refl refl refl h
-
-    pub set-p : x < 2 ^ 32 → Fits i o (withP m x)
-    set-p h = set-cell (withP m x) 1 x refl refl refl h
-
-    pub set-t : x < 2 ^ 16 → Fits i o (withT m x)
-    set-t h = set-cell (withT m x) 2 x refl refl refl h
-
-    pub set-pc : x < 2 ^ 16 → Fits i o (withPc m x)
-    set-pc h = set-cell (withPc m x) 3 x refl refl refl h
-
-    pub set-pfc : x < 2 ^ 16 → Fits i o (withPfc m x)
-    set-pfc h = set-cell (withPfc m x) 4 x refl refl refl h
-
-    pub set-arp : x < 8 → Fits i o (withArp m x)
-    set-arp h = set-cell (withArp m x) 5 x refl refl refl h
-
-    pub set-arb : x < 8 → Fits i o (withArb m x)
-    set-arb h = set-cell (withArb m x) 6 x refl refl refl h
-
-    pub set-dp : x < 512 → Fits i o (withDp m x)
-    set-dp h = set-cell (withDp m x) 7 x refl refl refl h
-
-    pub set-pm : x < 4 → Fits i o (withPm m x)
-    set-pm h = set-cell (withPm m x) 8 x refl refl refl h
-
-    pub set-ov : x < 2 → Fits i o (withOv m x)
-    set-ov h = set-cell (withOv m x) 9 x refl refl refl h
-
-    pub set-ovm : x < 2 → Fits i o (withOvm m x)
-    set-ovm h = set-cell (withOvm m x) 10 x refl refl refl h
-
-    pub set-sxm : x < 2 → Fits i o (withSxm m x)
-    set-sxm h = set-cell (withSxm m x) 11 x refl refl refl h
-
-    pub set-c : x < 2 → Fits i o (withC m x)
-    set-c h = set-cell (withC m x) 12 x refl refl refl h
-
-    pub set-cnf : x < 2 → Fits i o (withCnf m x)
-    set-cnf h = set-cell (withCnf m x) 13 x refl refl refl h
-
-    pub set-mid : x < 2 → Fits i o (withMid m x)
-    set-mid h = set-cell (withMid m x) 14 x refl refl refl h
-
-    pub set-rptc : x < 256 → Fits i o (withRptc m x)
-    set-rptc h = set-cell (withRptc m x) 15 x refl refl refl h
-
-    pub set-input-cursor : x < i + 1 → Fits i o (withInputCursor m x)
-    set-input-cursor h = set-cell (withInputCursor m x) 16 x refl refl refl h
-
-    pub set-output-cursor : x < o + 1 → Fits i o (withOutputCursor m x)
-    set-output-cursor h = set-cell (withOutputCursor m x) 17 x refl refl refl h
+  -- AR and the stack are of eight words of 16 bits
+  pub words-fit : (name : String) → largestOf name ≡ 65535 → WordsFit (wordsIn m name)
+  words-fit name e = most-fit (wordsIn m name) (rw e at (words-most (f .ranged) name))
 
   pub set-register : (r x : ℕ) → x < 2 ^ 16 → Fits i o (withRegister m r x)
   set-register r x h = record {
-    below = f .below;
-    ar = words-set (m .ar) r x h (f .ar);
-    ar-count = length-set (m .ar) r x ∙ f .ar-count;
-    stack = f .stack;
-    stack-count = f .stack-count;
+    ranged =
+        put-words-within (f .ranged) "AR" (set (m .ar) r x) (length-set (m .ar) r x ∙ words-count (f .ranged) "AR")
+        (fit-most (set (m .ar) r x) (words-set (m .ar) r x h (words-fit "AR" refl)));
+    reads = f .reads;
+    sends = f .sends;
+    input-most = f .input-most;
+    output-most = f .output-most;
+  }
+
+  -- another stack of eight words of 16 bits
+  set-stack : (words : List ℕ) → length words ≡ 8 → WordsFit words → Fits i o (putWords "stack" m words)
+  set-stack words n h = record {
+    ranged = put-words-within (f .ranged) "stack" words n (fit-most words h);
+    reads = f .reads;
+    sends = f .sends;
+    input-most = f .input-most;
+    output-most = f .output-most;
   }
 
   pub set-pushed : (x : ℕ) → x < 2 ^ 16 → Fits i o (pushOn m x)
   unfolding pushOf
-  set-pushed x h = record {
-    below = f .below;
-    ar = f .ar;
-    ar-count = f .ar-count;
-    stack = (h, words-take 7 (m .stack .words) (f .stack));
-    stack-count = push-length (m .stack) (f .stack-count) x;
-  }
+  set-pushed x h =
+      set-stack (pushOf (m .stack) x .words) (push-length (m .stack) (words-count (f .ranged) "stack") x)
+      (h, words-take 7 (m .stack .words) (words-fit "stack" refl))
 
   pub set-popped : Fits i o (popOn m .m)
   unfolding popOf
-  set-popped = record {
-    below = f .below;
-    ar = f .ar;
-    ar-count = f .ar-count;
-    stack = words-append (drop 1 (m .stack .words)) _ (words-drop 1 (m .stack .words) (f .stack)) (word-at (m .stack .words) 7 (f .stack), tt);
-    stack-count = pop-length (m .stack) (f .stack-count);
-  }
+  set-popped =
+      let words = words-fit "stack" refl in
+      set-stack (popOf (m .stack) .words) (pop-length (m .stack) (words-count (f .ranged) "stack"))
+      (words-append (drop 1 (m .stack .words)) _ (words-drop 1 (m .stack .words) words) (word-at (m .stack .words) 7 words, tt))
 
   pub top-fits : popOn m .word < 2 ^ 16
   unfolding topOf
-  top-fits = word-at (m .stack .words) 0 (f .stack)
+  top-fits = word-at (m .stack .words) 0 (words-fit "stack" refl)
 
-  -- the cell k, counted from 0, is below its limit
-  pub cell-fits : (k : ℕ) → valueAt (cells i o m) k < limitAt (cells i o m) k
-  cell-fits k = below-at (cells i o m) k (f .below)
+  -- the cell of this name is below the number after its largest
+  pub cell-fits : (name : String) → numberIn m name < suc (largestOf name)
+  cell-fits name = omega (arith, most (f .ranged) name)
 
   pub register-fits : (r : ℕ) → getD (m .ar) r 0 < 2 ^ 16
-  register-fits r = word-at (m .ar) r (f .ar)
+  register-fits r = omega (arith, word-most (f .ranged) "AR" r)

@@ -44,7 +44,7 @@ use Rattle.steps.specs.Pass.{readWord, wordsRead}
 use Rattle.steps.specs.Table.{secondAddress, secondWord}
 use Rattle.ranges.specs.Ranges.{WordsFit}
 use Rattle.ranges.specs.Fields.{NextFits, AddressFits, accumulatorFits, multiplierFits, auxiliaryFits, branchesFits, transfersFits, modesFits, FieldsFit}
-use Rattle.ranges.specs.Cells.{Fits, word-at, words-take, words-drop, set-arp, set-arb, set-register, cell-fits, register-fits}
+use Rattle.ranges.specs.Cells.{Fits, word-at, words-take, words-drop, set-cell, set-register, cell-fits, register-fits}
 use Rattle.ranges.specs.Widths.{sum-lt, difference-lt, reversed-sum-lt, reversed-difference-lt}
 use Rattle.ranges.specs.Rules.{WordsRead}
 
@@ -172,7 +172,7 @@ module _ {i o : ℕ} where
   pointed-keeps : (next : NextArp) {m : Machine} → NextFits next → Fits i o m → Fits i o (pointed next m)
   unfolding pointed
   pointed-keeps Same g f = f
-  pointed-keeps (To arp) g f = set-arp (set-arb f (cell-fits f 5)) g
+  pointed-keeps (To arp) g f = set-cell "ARP" (set-cell "ARB" f (cell-fits f "ARP")) g
 
   pub addressed-keeps : (x : Operand) {m : Machine} → OperandFits x → Fits i o m → Fits i o (addressed x m)
   unfolding addressed modified

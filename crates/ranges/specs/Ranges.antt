@@ -4,7 +4,6 @@ use mathlib.Core.Bool.{true}
 use mathlib.Core.List.{List, [], _∷_}
 use Prim.Native.Nat.{ℕ, _^_, _≤_, _<_}
 use lib.ListN.{length}
-use Rattle.machine.specs.declared.Machine.{Machine}
 use Rattle.machine.specs.Reset.{resetMachine}
 use Rattle.machine.specs.Range.{inRange}
 use Rattle.answers.specs.declared.Answer.the-variants.{Done}
@@ -20,23 +19,10 @@ abbrev pub WordsFit : List ℕ → Type 0
 WordsFit [] = Unit {0}
 WordsFit (x ∷ xs) = (x < 2 ^ 16) × WordsFit xs
 
--- the cells whose range check 1 does not test, since their types hold it: "ACC and P (32 bits), T, PC, PFC and AR0 to AR7 (16 bits), an eight-word stack"
-pub record WordSized (m : Machine) : Type 0 where
-  pub acc : m .acc < 2 ^ 32
-  pub p : m .p < 2 ^ 32
-  pub t : m .t < 2 ^ 16
-  pub pc : m .pc < 2 ^ 16
-  pub pfc : m .pfc < 2 ^ 16
-  pub ar : WordsFit (m .ar)
-  pub ar-count : length (m .ar) ≡ 8
-  pub stack : WordsFit (m .stack .words)
-  pub stack-count : length (m .stack .words) ≡ 8
-
--- checks 1 and 2 are passed, and every word is within its width
+-- checks 1 and 2 are passed, and every word of the slices is within its width
 pub record WorldInRange (g : Given) (w : World) : Type 0 where
   pub in-range : inRange (w .m) ≡ true
   pub slices-fit : slicesFit (w .m) (g .rom) (w .«data») (g .input) (length (w .output)) ≡ true
-  pub sized : WordSized (w .m)
   pub rom-words : WordsFit (g .rom)
   pub input-words : WordsFit (g .input)
   pub data-words : WordsFit (w .«data»)

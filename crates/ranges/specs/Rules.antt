@@ -43,7 +43,7 @@ use Rattle.steps.specs.Refusals.{sends}
 use Rattle.pages.specs.declared.Words.{Words}
 use Rattle.pages.specs.Rules.{ruleOf}
 use Rattle.ranges.specs.Fields.{accumulatorFits, multiplierFits, auxiliaryFits, modesFits, FieldsFit}
-use Rattle.ranges.specs.Cells.{Fits, set-acc, set-p, set-t, set-pfc, set-dp, set-pm, set-ov, set-ovm, set-sxm, set-c, set-cnf, set-rptc, set-input-cursor, set-output-cursor, set-register, set-pushed, set-popped, top-fits, cell-fits, register-fits}
+use Rattle.ranges.specs.Cells.{Fits, set-cell, set-register, set-pushed, set-popped, top-fits, cell-fits, register-fits}
 use Rattle.ranges.specs.Widths.{SumFits, ShiftedFits, added-fits, subtracted-fits, added-high-fits, subtracted-high-fits, negated-fits, absolute-fits, conditionally-fits, high-half-lt, operand-lt, unsigned-lt, stored-low-lt, stored-high-lt, left-fits, right-fits, anded-lt, ored-lt, xored-lt, complemented-lt, product-lt, shifted-lt, product-high-lt, product-low-lt, sum-lt, sum-le, difference-lt}
 
 -- a word that is to be stored, and a jump, are of 16 bits
@@ -93,66 +93,66 @@ module _ {i o : ℕ} where
   jumping f h = record { m = f; store = tt; jump = h }
 
   set-sum : {m : Machine} {s : Sum} → Fits i o m → SumFits s → Fits i o (withSum m s)
-  set-sum f s = set-c (set-ov (set-acc f (s .acc)) (s .ov)) (s .c)
+  set-sum f s = set-cell "C" (set-cell "OV" (set-cell "ACC" f (s .acc)) (s .ov)) (s .c)
 
   set-shifted : {m : Machine} {s : Shifted} → Fits i o m → ShiftedFits s → Fits i o (withShifted m s)
-  set-shifted f s = set-c (set-acc f (s .acc)) (s .c)
+  set-shifted f s = set-cell "C" (set-cell "ACC" f (s .acc)) (s .c)
 
   accumulator-keeps : (x : Accumulator) {m : Machine} {w : ℕ} → Fits i o m → w < 2 ^ 16 → accumulatorFits x → EffectFits i o (accumulatorRule x m w)
   unfolding accumulatorRule ADD SUB LAC ADDH ADDS SUBH SUBS SUBC ZALH ZALS AND OR XOR SACL SACH LACK ADDK SUBK CMPL NEG ABS SFL SFR
-  accumulator-keeps (Accumulator.Add s a) {m} {w} f h k = only (set-sum f (added-fits _ _ (cell-fits f 0) (cell-fits f 9) (operand-lt w s (m .sxm))))
-  accumulator-keeps (Accumulator.Sub s a) {m} {w} f h k = only (set-sum f (subtracted-fits _ _ (cell-fits f 0) (cell-fits f 9)))
-  accumulator-keeps (Accumulator.Lac s a) {m} {w} f h k = only (set-acc f (operand-lt w s (m .sxm)))
-  accumulator-keeps (Accumulator.Addh a) {m} {w} f h k = only (set-sum f (added-high-fits _ _ (cell-fits f 0) (cell-fits f 9) (cell-fits f 12)))
-  accumulator-keeps (Accumulator.Adds a) {m} {w} f h k = only (set-sum f (added-fits _ _ (cell-fits f 0) (cell-fits f 9) (unsigned-lt w)))
-  accumulator-keeps (Accumulator.Subh a) {m} {w} f h k = only (set-sum f (subtracted-high-fits _ _ (cell-fits f 0) (cell-fits f 9) (cell-fits f 12)))
-  accumulator-keeps (Accumulator.Subs a) {m} {w} f h k = only (set-sum f (subtracted-fits _ _ (cell-fits f 0) (cell-fits f 9)))
-  accumulator-keeps (Accumulator.Subc a) {m} {w} f h k = only (set-sum f (conditionally-fits _ (m .ovm) (cell-fits f 0) (cell-fits f 9)))
-  accumulator-keeps (Accumulator.Zalh a) {m} {w} f h k = only (set-acc f (high-half-lt w h))
-  accumulator-keeps (Accumulator.Zals a) {m} {w} f h k = only (set-acc f (unsigned-lt w))
-  accumulator-keeps (Accumulator.And a) {m} {w} f h k = only (set-acc f (anded-lt (m .acc) w (cell-fits f 0)))
-  accumulator-keeps (Accumulator.Or a) {m} {w} f h k = only (set-acc f (ored-lt (m .acc) w (cell-fits f 0)))
-  accumulator-keeps (Accumulator.Xor a) {m} {w} f h k = only (set-acc f (xored-lt (m .acc) w (cell-fits f 0)))
+  accumulator-keeps (Accumulator.Add s a) {m} {w} f h k = only (set-sum f (added-fits _ _ (cell-fits f "ACC") (cell-fits f "OV") (operand-lt w s (m .sxm))))
+  accumulator-keeps (Accumulator.Sub s a) {m} {w} f h k = only (set-sum f (subtracted-fits _ _ (cell-fits f "ACC") (cell-fits f "OV")))
+  accumulator-keeps (Accumulator.Lac s a) {m} {w} f h k = only (set-cell "ACC" f (operand-lt w s (m .sxm)))
+  accumulator-keeps (Accumulator.Addh a) {m} {w} f h k = only (set-sum f (added-high-fits _ _ (cell-fits f "ACC") (cell-fits f "OV") (cell-fits f "C")))
+  accumulator-keeps (Accumulator.Adds a) {m} {w} f h k = only (set-sum f (added-fits _ _ (cell-fits f "ACC") (cell-fits f "OV") (unsigned-lt w)))
+  accumulator-keeps (Accumulator.Subh a) {m} {w} f h k = only (set-sum f (subtracted-high-fits _ _ (cell-fits f "ACC") (cell-fits f "OV") (cell-fits f "C")))
+  accumulator-keeps (Accumulator.Subs a) {m} {w} f h k = only (set-sum f (subtracted-fits _ _ (cell-fits f "ACC") (cell-fits f "OV")))
+  accumulator-keeps (Accumulator.Subc a) {m} {w} f h k = only (set-sum f (conditionally-fits _ (m .ovm) (cell-fits f "ACC") (cell-fits f "OV")))
+  accumulator-keeps (Accumulator.Zalh a) {m} {w} f h k = only (set-cell "ACC" f (high-half-lt w h))
+  accumulator-keeps (Accumulator.Zals a) {m} {w} f h k = only (set-cell "ACC" f (unsigned-lt w))
+  accumulator-keeps (Accumulator.And a) {m} {w} f h k = only (set-cell "ACC" f (anded-lt (m .acc) w (cell-fits f "ACC")))
+  accumulator-keeps (Accumulator.Or a) {m} {w} f h k = only (set-cell "ACC" f (ored-lt (m .acc) w (cell-fits f "ACC")))
+  accumulator-keeps (Accumulator.Xor a) {m} {w} f h k = only (set-cell "ACC" f (xored-lt (m .acc) w (cell-fits f "ACC")))
   accumulator-keeps (Accumulator.Sacl s a) {m} {w} f h k = storing f (stored-low-lt (m .acc) s)
   accumulator-keeps (Accumulator.Sach s a) {m} {w} f h k = storing f (stored-high-lt (m .acc) s)
-  accumulator-keeps (Accumulator.Lack n) {m} {w} f h k = only (set-acc f (omega (arith, k)))
-  accumulator-keeps (Accumulator.Addk n) {m} {w} f h k = only (set-sum f (added-fits _ _ (cell-fits f 0) (cell-fits f 9) (omega (arith, k))))
-  accumulator-keeps (Accumulator.Subk n) {m} {w} f h k = only (set-sum f (subtracted-fits _ _ (cell-fits f 0) (cell-fits f 9)))
-  accumulator-keeps Accumulator.Cmpl {m} {w} f h k = only (set-acc f (complemented-lt (m .acc)))
-  accumulator-keeps Accumulator.Neg {m} {w} f h k = only (set-sum f (negated-fits 0 _ (cell-fits f 0) (cell-fits f 9)))
-  accumulator-keeps Accumulator.Abs {m} {w} f h k = only (set-sum f (absolute-fits 0 _ (cell-fits f 0) (cell-fits f 9)))
-  accumulator-keeps Accumulator.Sfl {m} {w} f h k = only (set-shifted f (left-fits (m .acc) (cell-fits f 0)))
-  accumulator-keeps Accumulator.Sfr {m} {w} f h k = only (set-shifted f (right-fits (m .acc) (m .sxm) (cell-fits f 0)))
+  accumulator-keeps (Accumulator.Lack n) {m} {w} f h k = only (set-cell "ACC" f (omega (arith, k)))
+  accumulator-keeps (Accumulator.Addk n) {m} {w} f h k = only (set-sum f (added-fits _ _ (cell-fits f "ACC") (cell-fits f "OV") (omega (arith, k))))
+  accumulator-keeps (Accumulator.Subk n) {m} {w} f h k = only (set-sum f (subtracted-fits _ _ (cell-fits f "ACC") (cell-fits f "OV")))
+  accumulator-keeps Accumulator.Cmpl {m} {w} f h k = only (set-cell "ACC" f (complemented-lt (m .acc)))
+  accumulator-keeps Accumulator.Neg {m} {w} f h k = only (set-sum f (negated-fits 0 _ (cell-fits f "ACC") (cell-fits f "OV")))
+  accumulator-keeps Accumulator.Abs {m} {w} f h k = only (set-sum f (absolute-fits 0 _ (cell-fits f "ACC") (cell-fits f "OV")))
+  accumulator-keeps Accumulator.Sfl {m} {w} f h k = only (set-shifted f (left-fits (m .acc) (cell-fits f "ACC")))
+  accumulator-keeps Accumulator.Sfr {m} {w} f h k = only (set-shifted f (right-fits (m .acc) (m .sxm) (cell-fits f "ACC")))
 
   PAC-fits : {m : Machine} → Fits i o m → Fits i o (PAC m)
   unfolding PAC
-  PAC-fits {m} f = set-acc f (shifted-lt (m .p) (m .pm))
+  PAC-fits {m} f = set-cell "ACC" f (shifted-lt (m .p) (m .pm))
 
   APAC-fits : {m : Machine} → Fits i o m → Fits i o (APAC m)
   unfolding APAC
-  APAC-fits {m} f = set-sum f (added-fits _ _ (cell-fits f 0) (cell-fits f 9) (shifted-lt (m .p) (m .pm)))
+  APAC-fits {m} f = set-sum f (added-fits _ _ (cell-fits f "ACC") (cell-fits f "OV") (shifted-lt (m .p) (m .pm)))
 
   SPAC-fits : {m : Machine} → Fits i o m → Fits i o (SPAC m)
   unfolding SPAC
-  SPAC-fits f = set-sum f (subtracted-fits _ _ (cell-fits f 0) (cell-fits f 9))
+  SPAC-fits f = set-sum f (subtracted-fits _ _ (cell-fits f "ACC") (cell-fits f "OV"))
 
   MAC-fits : {m : Machine} {w : ℕ} → Fits i o m → w < 2 ^ 16 → (table at : ℕ) → Fits i o (MAC w table at m)
   unfolding MAC
-  MAC-fits {m} {w} f h table at = set-pfc (set-p (set-t (APAC-fits f) h) (product-lt w table)) (sum-lt at 1)
+  MAC-fits {m} {w} f h table at = set-cell "PFC" (set-cell "P" (set-cell "T" (APAC-fits f) h) (product-lt w table)) (sum-lt at 1)
 
   multiplier-keeps : (x : Multiplier) {m : Machine} {w : ℕ} (table at : ℕ) → Fits i o m → w < 2 ^ 16 → multiplierFits x → EffectFits i o (multiplierRule x m w table at)
   unfolding multiplierRule LT LTA LTP LTD LTS MPY MPYA MPYS MPYK SQRA SQRS MACD SPL SPH SPM
-  multiplier-keeps (Multiplier.Lt a) {m} {w} table at f h k = only (set-t f h)
-  multiplier-keeps (Multiplier.Lta a) {m} {w} table at f h k = only (set-t (APAC-fits f) h)
-  multiplier-keeps (Multiplier.Ltp a) {m} {w} table at f h k = only (set-t (PAC-fits f) h)
-  multiplier-keeps (Multiplier.Ltd a) {m} {w} table at f h k = copying (set-t (APAC-fits f) h) h
-  multiplier-keeps (Multiplier.Lts a) {m} {w} table at f h k = only (set-t (SPAC-fits f) h)
-  multiplier-keeps (Multiplier.Mpy a) {m} {w} table at f h k = only (set-p f (product-lt (m .t) w))
-  multiplier-keeps (Multiplier.Mpya a) {m} {w} table at f h k = only (set-p (APAC-fits f) (product-lt (m .t) w))
-  multiplier-keeps (Multiplier.Mpys a) {m} {w} table at f h k = only (set-p (SPAC-fits f) (product-lt (m .t) w))
-  multiplier-keeps (Multiplier.Mpyk n) {m} {w} table at f h k = only (set-p f (product-lt (m .t) _))
-  multiplier-keeps (Multiplier.Sqra a) {m} {w} table at f h k = only (set-p (set-t (APAC-fits f) h) (product-lt w w))
-  multiplier-keeps (Multiplier.Sqrs a) {m} {w} table at f h k = only (set-p (set-t (SPAC-fits f) h) (product-lt w w))
+  multiplier-keeps (Multiplier.Lt a) {m} {w} table at f h k = only (set-cell "T" f h)
+  multiplier-keeps (Multiplier.Lta a) {m} {w} table at f h k = only (set-cell "T" (APAC-fits f) h)
+  multiplier-keeps (Multiplier.Ltp a) {m} {w} table at f h k = only (set-cell "T" (PAC-fits f) h)
+  multiplier-keeps (Multiplier.Ltd a) {m} {w} table at f h k = copying (set-cell "T" (APAC-fits f) h) h
+  multiplier-keeps (Multiplier.Lts a) {m} {w} table at f h k = only (set-cell "T" (SPAC-fits f) h)
+  multiplier-keeps (Multiplier.Mpy a) {m} {w} table at f h k = only (set-cell "P" f (product-lt (m .t) w))
+  multiplier-keeps (Multiplier.Mpya a) {m} {w} table at f h k = only (set-cell "P" (APAC-fits f) (product-lt (m .t) w))
+  multiplier-keeps (Multiplier.Mpys a) {m} {w} table at f h k = only (set-cell "P" (SPAC-fits f) (product-lt (m .t) w))
+  multiplier-keeps (Multiplier.Mpyk n) {m} {w} table at f h k = only (set-cell "P" f (product-lt (m .t) _))
+  multiplier-keeps (Multiplier.Sqra a) {m} {w} table at f h k = only (set-cell "P" (set-cell "T" (APAC-fits f) h) (product-lt w w))
+  multiplier-keeps (Multiplier.Sqrs a) {m} {w} table at f h k = only (set-cell "P" (set-cell "T" (SPAC-fits f) h) (product-lt w w))
   multiplier-keeps (Multiplier.Mac a) {m} {w} table at f h k = only (MAC-fits f h table at)
   multiplier-keeps (Multiplier.Macd a) {m} {w} table at f h k = copying (MAC-fits f h table at) h
   multiplier-keeps Multiplier.Pac {m} {w} table at f h k = only (PAC-fits f)
@@ -160,7 +160,7 @@ module _ {i o : ℕ} where
   multiplier-keeps Multiplier.Spac {m} {w} table at f h k = only (SPAC-fits f)
   multiplier-keeps (Multiplier.Spl a) {m} {w} table at f h k = storing f (product-low-lt (m .p) (m .pm))
   multiplier-keeps (Multiplier.Sph a) {m} {w} table at f h k = storing f (product-high-lt (m .p) (m .pm))
-  multiplier-keeps (Multiplier.Spm n) {m} {w} table at f h k = only (set-pm f k)
+  multiplier-keeps (Multiplier.Spm n) {m} {w} table at f h k = only (set-cell "PM" f k)
 
   auxiliary-keeps : (x : Auxiliary) {before m : Machine} {w : ℕ} → Fits i o before → Fits i o m → w < 2 ^ 16 → auxiliaryFits x → EffectFits i o (auxiliaryRule x before m w)
   unfolding auxiliaryRule LAR SAR LARK MAR ADRK SBRK LDP LDPK
@@ -170,8 +170,8 @@ module _ {i o : ℕ} where
   auxiliary-keeps (Auxiliary.Mar a) {before} {m} {w} b f h g = only f
   auxiliary-keeps (Auxiliary.Adrk k) {before} {m} {w} b f h g = only (set-register f (m .arp) _ (sum-lt _ k))
   auxiliary-keeps (Auxiliary.Sbrk k) {before} {m} {w} b f h g = only (set-register f (m .arp) _ (difference-lt _ k))
-  auxiliary-keeps (Auxiliary.Ldp a) {before} {m} {w} b f h g = only (set-dp f (nine w))
-  auxiliary-keeps (Auxiliary.Ldpk k) {before} {m} {w} b f h g = only (set-dp f g)
+  auxiliary-keeps (Auxiliary.Ldp a) {before} {m} {w} b f h g = only (set-cell "DP" f (nine w))
+  auxiliary-keeps (Auxiliary.Ldpk k) {before} {m} {w} b f h g = only (set-cell "DP" f g)
 
   branching : (test : Bool) {m : Machine} {pma : ℕ} → Fits i o m → pma < 2 ^ 16 → EffectFits i o (branched test pma m)
   unfolding branched
@@ -188,8 +188,8 @@ module _ {i o : ℕ} where
   branches-keeps (Branches.Bgez x) before {m} f h = branching _ f h
   branches-keeps (Branches.Blz x) before {m} f h = branching _ f h
   branches-keeps (Branches.Blez x) before {m} f h = branching _ f h
-  branches-keeps (Branches.Bv x) before {m} f h = branching _ (set-ov f (omega arith)) h
-  branches-keeps (Branches.Bnv x) before {m} f h = branching _ (set-ov f (omega arith)) h
+  branches-keeps (Branches.Bv x) before {m} f h = branching _ (set-cell "OV" f (omega arith)) h
+  branches-keeps (Branches.Bnv x) before {m} f h = branching _ (set-cell "OV" f (omega arith)) h
   branches-keeps (Branches.Call x) before {m} f h = jumping (set-pushed f _ (sum-lt (m .pc) 2)) h
   branches-keeps Branches.Ret before {m} f h = jumping (set-popped f) (top-fits f)
 
@@ -200,22 +200,22 @@ module _ {i o : ℕ} where
   unfolding transfersRule DMOV IN OUT transfersTraits sends
   transfers-keeps (Transfers.Dmov a) dry f h k more room = copying f h
   transfers-keeps (Transfers.In port a) true f h k more room = storing f (omega arith)
-  transfers-keeps (Transfers.In port a) {m} false f h k more room = storing (set-input-cursor f (omega (arith, sum-le (m .«input_cursor») 1, more refl))) k
+  transfers-keeps (Transfers.In port a) {m} false f h k more room = storing (set-cell "input cursor" f (omega (arith, sum-le (m .«input_cursor») 1, more refl))) k
   transfers-keeps (Transfers.Out port a) {m} dry f h k more room =
-      record { m = set-output-cursor f (omega (arith, sum-le (m .«output_cursor») 1, room refl)); store = h; jump = tt }
+      record { m = set-cell "output cursor" f (omega (arith, sum-le (m .«output_cursor») 1, room refl)); store = h; jump = tt }
 
   modes-keeps : (x : Modes) {m : Machine} (w : ℕ) → Fits i o m → modesFits x → EffectFits i o (modesRule x m w)
   unfolding modesRule SOVM ROVM SSXM RSXM CNFD CNFP RPT RPTK PUSH POP
-  modes-keeps Modes.Sovm {m} w f g = only (set-ovm f (omega arith))
-  modes-keeps Modes.Rovm {m} w f g = only (set-ovm f (omega arith))
-  modes-keeps Modes.Ssxm {m} w f g = only (set-sxm f (omega arith))
-  modes-keeps Modes.Rsxm {m} w f g = only (set-sxm f (omega arith))
-  modes-keeps Modes.Cnfd {m} w f g = only (set-cnf f (omega arith))
-  modes-keeps Modes.Cnfp {m} w f g = only (set-cnf f (omega arith))
-  modes-keeps (Modes.Rpt a) {m} w f g = only (set-rptc f (eight w))
-  modes-keeps (Modes.Rptk k) {m} w f g = only (set-rptc f g)
+  modes-keeps Modes.Sovm {m} w f g = only (set-cell "OVM" f (omega arith))
+  modes-keeps Modes.Rovm {m} w f g = only (set-cell "OVM" f (omega arith))
+  modes-keeps Modes.Ssxm {m} w f g = only (set-cell "SXM" f (omega arith))
+  modes-keeps Modes.Rsxm {m} w f g = only (set-cell "SXM" f (omega arith))
+  modes-keeps Modes.Cnfd {m} w f g = only (set-cell "CNF" f (omega arith))
+  modes-keeps Modes.Cnfp {m} w f g = only (set-cell "CNF" f (omega arith))
+  modes-keeps (Modes.Rpt a) {m} w f g = only (set-cell "RPTC" f (eight w))
+  modes-keeps (Modes.Rptk k) {m} w f g = only (set-cell "RPTC" f g)
   modes-keeps Modes.Push {m} w f g = only (set-pushed f _ (sixteen (m .acc)))
-  modes-keeps Modes.Pop {m} w f g = only (set-acc (set-popped f) (omega (arith, top-fits f)))
+  modes-keeps Modes.Pop {m} w f g = only (set-cell "ACC" (set-popped f) (omega (arith, top-fits f)))
 
   pub rule-keeps : (x : Instruction) {before m : Machine} (words : Words) → Fits i o before → Fits i o m → WordsRead i m words → FieldsFit x
       → (sends (traitsOf x .port) ≡ true → m .«output_cursor» < o) → EffectFits i o (ruleOf x before m words)

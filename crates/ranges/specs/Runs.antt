@@ -8,7 +8,7 @@ use lib.ListN.{length}
 use lib.Dec.{ltb}
 use borrow.Author.Tests.{le-leb, eq-eqb, ltb-true}
 use Rattle.machine.specs.declared.Machine.{Machine}
-use Rattle.machine.specs.Reset.{eightZeros, resetMachine}
+use Rattle.machine.specs.Reset.{resetMachine}
 use Rattle.machine.specs.Range.{inRange}
 use Rattle.machine.specs.RangeLaws.{in-range, reset-in-range}
 use Rattle.answers.specs.declared.Answer.{Answer}
@@ -27,9 +27,8 @@ use Rattle.steps.specs.RowLaws.{every, every-first}
 use Rattle.steps.specs.Refusals.{passRows, operandRows, restRows}
 use Rattle.steps.specs.TableLaws.{step-answer}
 use Rattle.laws.specs.Laws.{AllDone}
-use Rattle.laws.specs.Steps.{_and_}
 use Rattle.laws.specs.Runs.{run-none, run-refused, run-done, by-first}
-use Rattle.ranges.specs.Ranges.{WordsFit, WorldInRange, StartInRange, RunInRange, RunsInRange}
+use Rattle.ranges.specs.Ranges.{WorldInRange, StartInRange, RunInRange, RunsInRange}
 use Rattle.ranges.specs.Steps.{step-in-range}
 
 -- an answer that is neither 1 nor 2
@@ -105,12 +104,8 @@ unfolding resetMachine slicesFit memoriesFit portFits
 start-in-range g «data» output hr hd hi ho fr fd fi fo = record {
   in-range = reset-in-range;
   slices-fit = simp (eq-eqb _ _ hr, eq-eqb _ _ hd, le-leb _ _ hi, le-leb _ _ ho, le-leb 0 (length (g .input)) (omega arith), le-leb 0 (length output) (omega arith));
-  sized = record { acc = omega arith; p = omega arith; t = omega arith; pc = omega arith; pfc = omega arith; ar = zeros; ar-count = refl; stack = zeros; stack-count = refl };
   rom-words = fr;
   input-words = fi;
   data-words = fd;
   output-words = fo;
 }
-  where
-    zeros : WordsFit eightZeros
-    zeros = omega arith and omega arith and omega arith and omega arith and omega arith and omega arith and omega arith and omega arith and tt

@@ -2,13 +2,12 @@
 use mathlib.Core.Path.{_≡_, refl, sym, _∙_}
 use mathlib.Core.Bool.{Bool, true, false, cond, _&&_, false≢true}
 use mathlib.Core.List.{List}
-use Prim.Native.Nat.{ℕ, _+_, _-_, _^_, _≤_, _<_}
+use Prim.Native.Nat.{ℕ, _+_, _-_, _^_, _<_}
 use native.Mathlib.Omega.{arith}
 use lib.Dec.{ltb, leb}
 use lib.ListN.{length, length-set}
 use borrow.Author.Tests.{le-leb, eq-eqb, leb-false}
 use Rattle.machine.specs.declared.Machine.{Machine}
-use Rattle.machine.specs.Range.{inRange}
 use Rattle.machine.specs.RangeLaws.{ranged, in-range}
 use Rattle.answers.specs.declared.Answer.the-variants.{Done}
 use Rattle.answers.specs.NumberLaws.{done-is}
@@ -40,10 +39,10 @@ use Rattle.steps.specs.RowLaws.{row-not}
 use Rattle.steps.specs.TableLaws.{step-world}
 use Rattle.laws.specs.Steps.{_and_, refused-unchanged, row-given}
 use Rattle.laws.specs.Runs.{by-first}
-use Rattle.ranges.specs.Ranges.{WordsFit, WordSized, WorldInRange, StepInRange}
+use Rattle.ranges.specs.Ranges.{WordsFit, WorldInRange, StepInRange}
 use Rattle.ranges.specs.Fields.{FieldsFit, DecodedFits}
 use Rattle.ranges.specs.FieldLaws.{fields-at}
-use Rattle.ranges.specs.Cells.{Fits, words-set, set-pc, set-mid, set-rptc, cell-fits}
+use Rattle.ranges.specs.Cells.{Fits, words-set, set-cell, cell-fits}
 use Rattle.ranges.specs.Widths.{sum-lt}
 use Rattle.ranges.specs.Rules.{StoreFits, JumpFits, EffectFits, rule-keeps}
 use Rattle.ranges.specs.Operands.{operand-fits, addressed-keeps, addressed-cursors, second-lt, words-read}
@@ -53,68 +52,16 @@ use Rattle.ranges.specs.Operands.{operand-fits, addressed-keeps, address
 module _ (g : Given) (w : World) where
   cells-fit : WorldInRange g w → Fits (length (g .input)) (length (w .output)) (w .m)
   cells-fit k =
-      let r = ranged (w .m) (k .in-range) in
       let s = slices-fit (w .m) (g .rom) (w .«data») (g .input) (length (w .output)) (k .slices-fit) in
-      let z = k .sized in
       record {
-        below =
-            z .acc
-            and z .p
-            and z .t
-            and z .pc
-            and z .pfc
-            and omega (arith, r .arp)
-            and omega (arith, r .arb)
-            and omega (arith, r .dp)
-            and omega (arith, r .pm)
-            and omega (arith, r .ov)
-            and omega (arith, r .ovm)
-            and omega (arith, r .sxm)
-            and omega (arith, r .c)
-            and omega (arith, r .cnf)
-            and omega (arith, r .mid)
-            and omega (arith, r .rptc)
-            and omega (arith, s .input-port .not-past)
-            and omega (arith, s .output-port .not-past)
-            and tt;
-        ar = z .ar;
-        ar-count = z .ar-count;
-        stack = z .stack;
-        stack-count = z .stack-count;
+        ranged = ranged (w .m) (k .in-range);
+        reads = s .input-port .not-past;
+        sends = s .output-port .not-past;
+        input-most = s .input-port .size-most;
+        output-most = s .output-port .size-most;
       }
 
-module _ {i o : ℕ} {m : Machine} (f : Fits i o m) (hi : i ≤ 1024) (ho : o ≤ 1024) where
-  fits-ranged : inRange m ≡ true
-  fits-ranged =
-      in-range m (record {
-        arp = omega (arith, cell-fits f 5);
-        arb = omega (arith, cell-fits f 6);
-        dp = omega (arith, cell-fits f 7);
-        pm = omega (arith, cell-fits f 8);
-        ov = omega (arith, cell-fits f 9);
-        ovm = omega (arith, cell-fits f 10);
-        sxm = omega (arith, cell-fits f 11);
-        c = omega (arith, cell-fits f 12);
-        cnf = omega (arith, cell-fits f 13);
-        mid = omega (arith, cell-fits f 14);
-        rptc = omega (arith, cell-fits f 15);
-        input-cursor = omega (arith, cell-fits f 16);
-        output-cursor = omega (arith, cell-fits f 17);
-      })
-
-  fits-sized : WordSized m
-  fits-sized = record {
-    acc = cell-fits f 0;
-    p = cell-fits f 1;
-    t = cell-fits f 2;
-    pc = cell-fits f 3;
-    pfc = cell-fits f 4;
-    ar = f .ar;
-    ar-count = f .ar-count;
-    stack = f .stack;
-    stack-count = f .stack-count;
-  }
-
+module _ {i o : ℕ} {m : Machine} (f : Fits i o m) where
   fits-slices : (g : Given) («data» : List ℕ) → length (g .rom) ≡ 4096 → length «data» ≡ 4096 → length (g .input) ≡ i → slicesFit m (g .rom) «data» (g .input) o ≡ true
   unfolding slicesFit memoriesFit portFits
   fits-slices g «data» hr hd e =
@@ -122,10 +69,10 @@ module _ {i o : ℕ} {m : Machine} (f : Fits i o m) (hi : i ≤ 1024) (ho : o �
         eq-eqb _ _ hr,
         eq-eqb _ _ hd,
         e,
-        le-leb i 1024 hi,
-        le-leb (m .«input_cursor») i (omega (arith, cell-fits f 16)),
-        le-leb o 1024 ho,
-        le-leb (m .«output_cursor») o (omega (arith, cell-fits f 17)),
+        le-leb i 1024 (f .input-most),
+        le-leb (m .«input_cursor») i (f .reads),
+        le-leb o 1024 (f .output-most),
+        le-leb (m .«output_cursor») o (f .sends),
       )
 
 -- ---- what follows a pass, and its store
@@ -143,8 +90,8 @@ followed-keeps : {i o : ℕ} {m : Machine} (jump : Jump) (words : ℕ) (repeatab
 unfolding followed
 followed-keeps {i} {o} {m} jump words repeatable f h =
     either (repeatable && ltb 0 (m .rptc))
-    (set-mid (set-rptc f (omega (arith, cell-fits f 15))) (omega arith))
-    (set-pc (set-mid f (omega arith)) (destination-lt jump (m .pc) words h))
+    (set-cell "MID" (set-cell "RPTC" f (omega (arith, cell-fits f "RPTC"))) (omega arith))
+    (set-cell "PC" (set-cell "MID" f (omega arith)) (destination-lt jump (m .pc) words h))
 
 -- the word of a store is of 16 bits
 abbrev WordOfWriteFits : Write → Type 0
@@ -220,13 +167,10 @@ module _ (g : Given) (w : World) (k : WorldInRange g w) (e : stepOf g w .answer 
       let after = slices-kept write (w .«data») (w .output)
       (passed-write g (w .«data») (length (w .output)) x (w .m) f fields room (k .rom-words) (k .data-words) (k .input-words)) (k .data-words) (k .output-words) in
       let n = passed-fits g (w .«data») (length (w .output)) x (w .m) f fields room (k .rom-words) (k .data-words) (k .input-words) in
-      let hi : length (g .input) ≤ 1024 = s .input-port .size-most in
-      let ho : length (w .output) ≤ 1024 = s .output-port .size-most in
       rw (step-world g w x c e)
       (record {
-        in-range = fits-ranged n hi ho;
-        slices-fit = rw (after .output-length) (fits-slices n hi ho g (dataAfter write (w .«data»)) (s .memories .rom-size) (after .data-length ∙ s .memories .data-size) refl);
-        sized = fits-sized n hi ho;
+        in-range = in-range _ (n .ranged);
+        slices-fit = rw (after .output-length) (fits-slices n g (dataAfter write (w .«data»)) (s .memories .rom-size) (after .data-length ∙ s .memories .data-size) refl);
         rom-words = k .rom-words;
         input-words = k .input-words;
         data-words = after .data-words;

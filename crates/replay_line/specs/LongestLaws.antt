@@ -7,7 +7,7 @@ use native.Mathlib.Omega.{arith}
 use lib.ListN.{length, take, length-take}
 use borrow.Author.Tests.{le-leb}
 use Rattle.machine.specs.declared.Machine.{Machine}
-use Rattle.machine.specs.RangeLaws.{ranged}
+use Rattle.machine.specs.RangeLaws.{ranged, most}
 use Rattle.answers.specs.declared.Answer.the-variants.{Done}
 use Rattle.answers.specs.Numbers.{numberOf, isDone}
 use Rattle.answers.specs.NumberLaws.{done-is}
@@ -55,7 +55,7 @@ run-line-most g r k h =
     let words = wordsSent (w .m) (w .output) in
     let room = slices-fit (w .m) (g .rom) (w .«data») (g .input) (length (w .output)) (k .slices-fit) .output-port .size-most in
     rw (line-of (r .answer) (r .steps) (w .m) (w .output), line-length (numberOf (r .answer)) (r .steps) (w .m .pc) (w .m .acc) (w .m .ov) words)
-    (omega (arith, two-digits (numberOf (r .answer)) (number-below (r .answer)), five-digits (r .steps) (omega arith), one-digit (w .m .ov) (omega (arith, ranged (w .m) (k .in-range) .ov)), sent-most (w .m) (w .output), room))
+    (omega (arith, two-digits (numberOf (r .answer)) (number-below (r .answer)), five-digits (r .steps) (omega arith), one-digit (w .m .ov) (omega (arith, most (ranged (w .m) (k .in-range)) "OV")), sent-most (w .m) (w .output), room))
 
 module _ (bytes : List ℕ) (below : Below 256 bytes) where
   accepted-most : readAnswer bytes ≡ Done → length (runLine (replayRun (readContents bytes))) ≤ longestLine

@@ -1,8 +1,8 @@
 -- One possible result of each exported function: the library for C.
-use Rattle.cells.proofs.length_answer.Reads as LengthAnswer
-use Rattle.cells.proofs.cells_answer.Reads as CellsAnswer
-use Rattle.cell_reading.proofs.machine_of.Reads as MachineOf
-use Rattle.cell_storing.proofs.put_cells.Reads as PutCells
+use Rattle.cells.proofs.checking.length_answer.Reads as LengthAnswer
+use Rattle.cells.proofs.checking.cells_answer.Reads as CellsAnswer
+use Rattle.cells.proofs.reading.machine_of.Reads as MachineOf
+use Rattle.cells.proofs.storing.put_cells.Reads as PutCells
 use Rattle.answers.proofs.number_of.Reads as NumberOf
 use Rattle.cell_calls.proofs.cells_pass.Reads as CellsPass
 use Rattle.cell_calls.proofs.cells_number.Reads as CellsNumber

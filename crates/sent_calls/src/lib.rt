@@ -3,8 +3,8 @@ ghost use mathlib.Core.Path.{_≡_};
 ghost use Rattle.sent_calls.specs.Sent.{counted, sentCalled};
 use answers::is_done;
 use answers::number_of;
-use cell_reading::machine_of;
-use cells::cells_answer;
+use cells::checking::cells_answer;
+use cells::reading::machine_of;
 use windows::words_sent;
 use windows::words_sent_answer;
 

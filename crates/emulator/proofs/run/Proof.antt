@@ -1,8 +1,7 @@
 use mathlib.Core.Path.{sym, ap, _∙_}
 use Prim.Native.Nat.{_-_}
 use native.Mathlib.Omega.{arith}
-use mir.Syntax.{w16}
-use borrow.Author.Needs.{needs, elem-fits-field}
+use borrow.Author.Needs.{needs}
 use borrow.Author.Tests.{not-true, not-false}
 use Rattle.board.specs.Given.{given}
 use Rattle.answers.specs.Numbers.{isDone}
@@ -40,17 +39,6 @@ loop-holds : tie.Need-loop-holds Inv-loop μ-loop
 loop-holds c =
     going-begins _ _ _
     (sym (c .before .before .before .check .ensures) ∙ done-is _ (sym (c .before .before .is-done .ensures) ∙ not-false _ (c .before .if1 .left)))
-    (record {
-      acc = search needs;
-      p = search needs;
-      t = search needs;
-      pc = search needs;
-      pfc = search needs;
-      ar = words-fit (c .before .before .before .before .before .before .before .before .before .args .m .ar) (λ i. elem-fits-field w16 w16 (c .before .before .before .before .before .before .before .before .before .args .m .ar) (c .before .before .before .before .before .before .before .before .before .good .0 .1 .1 .1 .1 .1 .1 .1 .1 .0 .0) i (c .before .before .before .before .before .before .before .before .before .good .0 .1 .1 .1 .1 .1 .1 .1 .1 .0 .1 .1) tt .fits);
-      ar-count = search needs;
-      stack = words-fit (c .before .before .before .before .before .before .before .before .before .args .m .stack .words) (λ i. elem-fits-field w16 w16 (c .before .before .before .before .before .before .before .before .before .args .m .stack .words) (c .before .before .before .before .before .before .before .before .before .good .0 .1 .1 .0 .1 .1 .0 .0) i (c .before .before .before .before .before .before .before .before .before .good .0 .1 .1 .0 .1 .1 .0 .1 .1) tt .fits);
-      stack-count = search needs;
-    })
     (words-fit (c .before .before .before .before .before .before .before .before .before .args .rom .now) (λ i. c .before .before .before .before .before .before .before .before .shared-slice-known .given i .fits))
     (words-fit (c .before .before .before .before .before .before .before .before .before .args .input .now) (λ i. c .before .before .before .before .before .before .shared-slice-known2 .given i .fits))
     (words-fit (c .before .before .before .before .before .before .before .before .before .args .«data» .now) (λ i. c .before .before .before .before .before .before .before .slice-known .given i .fits))
