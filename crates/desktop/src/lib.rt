@@ -3,3 +3,6 @@ pub mod files;
 pub mod running;
 pub mod sent;
 pub mod window;
+
+// How many numbers the cells of a machine are.
+pub const CELLS: usize = cells::CELLS;

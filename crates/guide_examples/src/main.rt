@@ -4,6 +4,7 @@
 // A line is `KIND PLACE VALUE LABEL`: N begins a case and prints its label, S puts the value into the place, T does one step, R runs with
 // the value as its budget, P prints its label and the place in hexadecimal, E ends the case.
 ghost use Prim.Native.Nat.{_<_};
+use desktop::CELLS;
 use desktop::running::crowmitten_reset;
 use desktop::running::crowmitten_run;
 use desktop::running::crowmitten_step;
@@ -86,7 +87,7 @@ fn store(
     rom: &mut [u16; 4096],
     input: &mut [u16; 4],
     output: &mut [u16; 4],
-    cells: &mut [u32; 34],
+    cells: &mut [u32; CELLS],
 ) {
     let at = a.place % 0x1000;
     let word = word_of(a.value);
@@ -106,7 +107,7 @@ fn place_of(
     data: &[u16; 4096],
     rom: &[u16; 4096],
     output: &[u16; 4],
-    cells: &[u32; 34],
+    cells: &[u32; CELLS],
 ) -> u32 {
     let at = place % 0x1000;
     match place / 0x1000 {
@@ -124,7 +125,7 @@ fn step_cells(
     rom: &[u16; 4096],
     input: &[u16; 4],
     output: &mut [u16; 4],
-    cells: &mut [u32; 34],
+    cells: &mut [u32; CELLS],
 ) -> Run {
     let answer = crowmitten_step(cells, rom, data, input, output);
     Run { answer, steps: 0 }
@@ -136,7 +137,7 @@ fn run_cells(
     rom: &[u16; 4096],
     input: &[u16; 4],
     output: &mut [u16; 4],
-    cells: &mut [u32; 34],
+    cells: &mut [u32; CELLS],
 ) -> Run {
     let mut steps: u32 = 0;
     let answer = crowmitten_run(cells, rom, data, input, output, budget, &mut steps);
@@ -151,7 +152,7 @@ fn act(
     rom: &mut [u16; 4096],
     input: &mut [u16; 4],
     output: &mut [u16; 4],
-    cells: &mut [u32; 34],
+    cells: &mut [u32; CELLS],
 ) -> Run {
     if a.kind == b'T' {
         return step_cells(data, rom, input, output, cells);
@@ -216,7 +217,7 @@ fn case() {
     let mut rom = [0u16; 4096];
     let mut input = [0u16; 4];
     let mut output = [0u16; 4];
-    let mut cells = [0u32; 34];
+    let mut cells = [0u32; CELLS];
     crowmitten_reset(&mut cells);
     let mut last = Run {
         answer: 0,
