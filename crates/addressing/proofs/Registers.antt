@@ -8,7 +8,7 @@ use lib.Dec.{eqb}
 use lib.ListN.{length, getD, set, length-set}
 use lib.Seq.{getD-set-same, getD-set-other}
 use borrow.Author.Tests.{eqb-true, eqb-false}
-use Rattle.stack.specs.Eight.{eight}
+use Rattle.hardware_stack.specs.Eight.{eight}
 
 by-test : (t : Bool) (l : List ℕ) (i j w : ℕ) → eqb i j ≡ t → j < length l → cond t w (getD l j 0) ≡ getD (set l i w) j 0
 by-test true l i j w e h =

@@ -1,10 +1,10 @@
 // Auxiliary registers by number, the address of an operand and of a table word, and the modification that an indirect operand asks for.
 
-use dma::Address;
-use dma::Indirect;
-use dma::Modification;
-use dma::NextArp;
 use machine::Machine;
+use operands::Address;
+use operands::Indirect;
+use operands::Modification;
+use operands::NextArp;
 use pages::Operand;
 ghost use mathlib.Core.Path.{_≡_};
 ghost use mathlib.Core.Bool.{cond};

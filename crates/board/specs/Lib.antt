@@ -6,7 +6,7 @@ pub mod Given
 pub mod RegionFacts
 pub mod SliceFacts
 pub mod WindowFacts
-pub mod PageLent
+pub mod DataPage
 -- laws
 pub mod RegionLaws
 pub mod SliceLaws

@@ -11,11 +11,11 @@ use lib.Seq.{slice, take-nil, set-out}
 use denote.Ref.{RefT, ptr, now}
 use borrow.Author.Tests.{le-leb, lt-leb, leb-true, leb-false, eqb-true}
 use borrow.Rule.Slice.PartMut.{mid-len, post-is, put-same, set-mid-at, same-len-mid, take-put, drop-put}
-use Rattle.board.specs.Slices.{memoriesFit, portFits, slicesFit, partStart, pagePart, pageStored}
+use Rattle.board.specs.Slices.{memoriesFit, portFits, slicesFit, partStart, dataPagePart, dataPageStored}
 use Rattle.board.specs.RegionLaws.{both-hold}
 use Rattle.machine.specs.declared.Machine.{Machine}
 use Rattle.board.specs.SliceFacts.{MemoriesFit, PortFits, SlicesFit}
-use Rattle.board.specs.PageLent.{count, pageLent, pageWritten, rejoined}
+use Rattle.board.specs.DataPage.{count, dataPageLent, dataPageWritten, rejoined}
 
 -- a part, by its start and how many words it has
 pub part-counted : (f t : ℕ) (l : List ℕ) → take (t - f) (drop f l) ≡ slice f t l
@@ -51,65 +51,65 @@ part-begins f t words start end he hs =
     let e : start * 2 + ptr words .1 ≡ ptr words .1 + 2 * min f (min t (length (now words))) = omega (arith, hs ∙ ap (min f) he) in
     ap (λ (n : ℕ). (ptr words .0, n)) e
 
-module _ (d : List ℕ) (page offset word : ℕ) where
-  pub page-put : 128 * page + 128 ≤ length d → pageStored d page offset word ≡ rejoined d page offset word
-  unfolding pageStored pagePart
-  page-put h =
-      simp (le-leb (128 * page + 128) (length d) h)
-      (rw (append-assoc, ← part-counted (128 * page) (128 * page + 128) d, ← post-is (128 * page) (128 * page + 128) d (omega arith)))
+module _ (d : List ℕ) (dp offset word : ℕ) where
+  pub data-page-put : 128 * dp + 128 ≤ length d → dataPageStored d dp offset word ≡ rejoined d dp offset word
+  unfolding dataPageStored dataPagePart
+  data-page-put h =
+      simp (le-leb (128 * dp + 128) (length d) h)
+      (rw (append-assoc, ← part-counted (128 * dp) (128 * dp + 128) d, ← post-is (128 * dp) (128 * dp + 128) d (omega arith)))
 
-  pub page-missing : length d < 128 * page + 128 → pageStored d page offset word ≡ d
-  unfolding pageStored
-  page-missing h = simp (lt-leb (128 * page + 128) (length d) h)
+  pub data-page-missing : length d < 128 * dp + 128 → dataPageStored d dp offset word ≡ d
+  unfolding dataPageStored
+  data-page-missing h = simp (lt-leb (128 * dp + 128) (length d) h)
 
-  either-way : (P : List ℕ → Type 0) → (128 * page + 128 ≤ length d → P (rejoined d page offset word)) → P d → P (pageStored d page offset word)
-  either-way P put kept = by (leb (128 * page + 128) (length d)) refl
+  either-way : (P : List ℕ → Type 0) → (128 * dp + 128 ≤ length d → P (rejoined d dp offset word)) → P d → P (dataPageStored d dp offset word)
+  either-way P put kept = by (leb (128 * dp + 128) (length d)) refl
     where
-      by : (t : Bool) → leb (128 * page + 128) (length d) ≡ t → P (pageStored d page offset word)
-      by true e = let h = leb-true _ _ e in rw (page-put h) (put h)
-      by false e = rw (page-missing (leb-false _ _ e)) kept
+      by : (t : Bool) → leb (128 * dp + 128) (length d) ≡ t → P (dataPageStored d dp offset word)
+      by true e = let h = leb-true _ _ e in rw (data-page-put h) (put h)
+      by false e = rw (data-page-missing (leb-false _ _ e)) kept
 
   -- the words before the page, and those after it, are as they were
-  pub page-before : take (128 * page) (pageStored d page offset word) ≡ take (128 * page) d
-  page-before =
-      either-way (λ (x : List ℕ). take (128 * page) x ≡ take (128 * page) d)
-      (λ h. take-put (128 * page) (count page) d (pageWritten d page offset word) (omega arith))
+  pub data-page-before : take (128 * dp) (dataPageStored d dp offset word) ≡ take (128 * dp) d
+  data-page-before =
+      either-way (λ (x : List ℕ). take (128 * dp) x ≡ take (128 * dp) d)
+      (λ h. take-put (128 * dp) (count dp) d (dataPageWritten d dp offset word) (omega arith))
       refl
 
-  pub page-after : drop (128 * page + 128) (pageStored d page offset word) ≡ drop (128 * page + 128) d
-  page-after =
-      either-way (λ (x : List ℕ). drop (128 * page + 128) x ≡ drop (128 * page + 128) d)
+  pub data-page-after : drop (128 * dp + 128) (dataPageStored d dp offset word) ≡ drop (128 * dp + 128) d
+  data-page-after =
+      either-way (λ (x : List ℕ). drop (128 * dp + 128) x ≡ drop (128 * dp + 128) d)
       (λ h.
-      drop-put (128 * page) (128 * page + 128) d (pageWritten d page offset word) (omega arith) h
-      (length-set (pageLent d page) offset word ∙ mid-len (128 * page) (128 * page + 128) d h))
+      drop-put (128 * dp) (128 * dp + 128) d (dataPageWritten d dp offset word) (omega arith) h
+      (length-set (dataPageLent d dp) offset word ∙ mid-len (128 * dp) (128 * dp + 128) d h))
       refl
 
-  pub page-length : length (pageStored d page offset word) ≡ length d
-  page-length =
+  pub data-page-length : length (dataPageStored d dp offset word) ≡ length d
+  data-page-length =
       either-way (λ (x : List ℕ). length x ≡ length d)
-      (λ h. same-len-mid (128 * page) (count page) d (pageWritten d page offset word) (length-set (pageLent d page) offset word))
+      (λ h. same-len-mid (128 * dp) (count dp) d (dataPageWritten d dp offset word) (length-set (dataPageLent d dp) offset word))
       refl
 
   -- an offset outside the page stores nothing
-  pub page-outside : 128 ≤ offset → pageStored d page offset word ≡ d
-  page-outside far =
+  pub data-page-outside : 128 ≤ offset → dataPageStored d dp offset word ≡ d
+  data-page-outside far =
       either-way (λ (x : List ℕ). x ≡ d)
       (λ h.
-      let out : length (pageLent d page) ≤ offset = rw (mid-len (128 * page) (128 * page + 128) d h) (omega arith) in
-      rw (set-out (pageLent d page) offset word out) (put-same (128 * page) (count page) d))
+      let out : length (dataPageLent d dp) ≤ offset = rw (mid-len (128 * dp) (128 * dp + 128) d h) (omega arith) in
+      rw (set-out (dataPageLent d dp) offset word out) (put-same (128 * dp) (count dp) d))
       refl
 
   -- in the page it is the one store at 128 times the page plus the offset
-  pub page-set : 128 * page + 128 ≤ length d → offset < 128 → pageStored d page offset word ≡ set d (128 * page + offset) word
-  page-set h near =
-      let inside : offset < length (pageLent d page) = rw (mid-len (128 * page) (128 * page + 128) d h) (omega arith) in
-      page-put h ∙ set-mid-at (128 * page) (count page) offset d word inside
+  pub data-page-set : 128 * dp + 128 ≤ length d → offset < 128 → dataPageStored d dp offset word ≡ set d (128 * dp + offset) word
+  data-page-set h near =
+      let inside : offset < length (dataPageLent d dp) = rw (mid-len (128 * dp) (128 * dp + 128) d h) (omega arith) in
+      data-page-put h ∙ set-mid-at (128 * dp) (count dp) offset d word inside
 
 -- a store by page and offset is the store at its address
-pub address-set : (d : List ℕ) (address word : ℕ) → length d ≡ 4096 → address < 4096 → pageStored d (address / 128) (address % 128) word ≡ set d address word
+pub address-set : (d : List ℕ) (address word : ℕ) → length d ≡ 4096 → address < 4096 → dataPageStored d (address / 128) (address % 128) word ≡ set d address word
 address-set d address word h below =
     let e : 128 * (address / 128) + address % 128 ≡ address = omega arith in
-    page-set d (address / 128) (address % 128) word (omega arith) (omega arith) ∙ rw e
+    data-page-set d (address / 128) (address % 128) word (omega arith) (omega arith) ∙ rw e
 
 pub memories-fit : (rom d : List ℕ) → memoriesFit rom d ≡ true → MemoriesFit rom d
 unfolding memoriesFit

@@ -1,4 +1,4 @@
--- Check 2 over the lent slices, the place of a part, and the page part that a direct store is made into.
+-- Check 2 over the lent slices, the place of a part, and the part of a data page that a direct store is made into.
 use mathlib.Core.Bool.{Bool, cond, _&&_}
 use mathlib.Core.List.{List, _++_}
 use Prim.Native.Nat.{ℕ, _+_, _*_, min}
@@ -33,13 +33,13 @@ unfoldable pub partStart : ℕ → ℕ → RefT (List ℕ) → ℕ × ℕ
 partStart from to words = (ptr words .0, ptr words .1 + 2 * min from (min to (length (now words))))
 
 -- "A data page is the 128 words from 128 times DP"
-unfoldable pub pagePart : ℕ → List ℕ → List ℕ
-pagePart page «data» = slice (128 * page) (128 * page + 128) «data»
+unfoldable pub dataPagePart : ℕ → List ℕ → List ℕ
+dataPagePart dp «data» = slice (128 * dp) (128 * dp + 128) «data»
 
 -- "a direct store is made into that part and into nothing outside it": what is before the part, the part with the word at the offset, what is after it.
--- Where the slice does not have the whole page, or the page has no such offset, nothing is stored.
-unfoldable pub pageStored : List ℕ → ℕ → ℕ → ℕ → List ℕ
-pageStored «data» page offset word =
-    cond (leb (128 * page + 128) (length «data»))
-    (take (128 * page) «data» ++ set (pagePart page «data») offset word ++ drop (128 * page + 128) «data»)
+-- Where the slice does not have the whole data page, or it has no such offset, nothing is stored.
+unfoldable pub dataPageStored : List ℕ → ℕ → ℕ → ℕ → List ℕ
+dataPageStored «data» dp offset word =
+    cond (leb (128 * dp + 128) (length «data»))
+    (take (128 * dp) «data» ++ set (dataPagePart dp «data») offset word ++ drop (128 * dp + 128) «data»)
     «data»

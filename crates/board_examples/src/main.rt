@@ -169,7 +169,7 @@ fn put_file(bytes: &mut [u8]) -> u8 {
     let program: [u16; 2] = [0xCA05, 0xCC07];
     let data: [u16; 1] = [0x1234];
     let input: [u16; 1] = [0x0042];
-    number(writing::write_file(&program, &data, &input, 7, bytes))
+    number(runfile_writing::write_file(&program, &data, &input, 7, bytes))
 }
 
 fn write_case() -> Shown {
@@ -204,7 +204,7 @@ fn words_shown(answer: Answer, rom: &[u16], data: &[u16], input: &[u16]) -> Show
 }
 
 fn set_up_shown(file: &[u8], rom: &mut [u16], data: &mut [u16], input: &mut [u16]) -> Shown {
-    let answer = setting_up::set_up(file, rom, data, input);
+    let answer = runfile_setting_up::set_up(file, rom, data, input);
     words_shown(answer, rom, data, input)
 }
 

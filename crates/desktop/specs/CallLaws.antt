@@ -10,9 +10,9 @@ use Rattle.steps.specs.Step.{stepOf, runOf}
 use Rattle.emulator.specs.declared.Stepped.{Stepped}
 use Rattle.emulator.specs.declared.Ran.{Ran}
 use Rattle.emulator.specs.Outcomes.{stepped, ran}
-use Rattle.cells.specs.Cells.{machineOf, cellsOf}
-use Rattle.cells.specs.Checks.{cellsAnswer, cellsAfter}
-use Rattle.cells.specs.CheckLaws.{kept-after}
+use Rattle.c_cells.specs.Cells.{machineOf, cellsOf}
+use Rattle.c_cells.specs.Checks.{cellsAnswer, cellsAfter}
+use Rattle.c_cells.specs.CheckLaws.{kept-after}
 use Rattle.desktop.specs.Calls.{called, worldOf, worldCalled, stepCalled, runDone, runCalled}
 use Rattle.board.specs.Given.{Given}
 

@@ -6,8 +6,8 @@ use Rattle.answers.specs.declared.Answer.{Answer}
 use Rattle.answers.specs.Numbers.{numberOf, isDone}
 use Rattle.steps.specs.World.{World, RunOutcome}
 use Rattle.steps.specs.Step.{stepOf, runOf}
-use Rattle.cells.specs.Cells.{machineOf, cellsOf}
-use Rattle.cells.specs.Checks.{cellsAnswer}
+use Rattle.c_cells.specs.Cells.{machineOf, cellsOf}
+use Rattle.c_cells.specs.Checks.{cellsAnswer}
 use Rattle.board.specs.Given.{Given}
 
 -- what a call gives, and what its cells, its data words and its output words are then

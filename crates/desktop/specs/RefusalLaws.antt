@@ -10,8 +10,8 @@ use Rattle.answers.specs.Numbers.{numberOf, isDone}
 use Rattle.steps.specs.World.{World}
 use Rattle.steps.specs.Step.{stepOf, runOf}
 use Rattle.laws.specs.Steps.{refused-unchanged}
-use Rattle.cells.specs.Checks.{cellsAnswer}
-use Rattle.cell_laws.specs.CellLaws.{cells-machine}
+use Rattle.c_cells.specs.Checks.{cellsAnswer}
+use Rattle.c_cell_laws.specs.CellLaws.{cells-machine}
 use Rattle.desktop.specs.Calls.{called, worldOf, worldCalled, stepCalled, runCalled}
 use Rattle.board.specs.Given.{Given}
 

@@ -3,12 +3,12 @@ ghost use mathlib.Core.Path.{_≡_};
 ghost use lib.ListN.{length};
 ghost use Rattle.answers.specs.Numbers.{numberOf};
 ghost use Rattle.runfile.specs.Files.{readAnswer, readContents};
-ghost use Rattle.setting_up.specs.SetUp.{lent, setUpAnswer, setUp};
-ghost use Rattle.writing.specs.Writing.{contents, writeAnswer, written};
-ghost use Rattle.write_calls.specs.WriteCalls.{writtenCount};
-use file_calls::read_counts;
-use file_calls::set_up_slices;
-use write_calls::write_counted;
+ghost use Rattle.runfile_setting_up.specs.SetUp.{lent, setUpAnswer, setUp};
+ghost use Rattle.runfile_writing.specs.Writing.{contents, writeAnswer, written};
+ghost use Rattle.c_file_writing.specs.WriteCalls.{writtenCount};
+use c_file_writing::write_counted;
+use c_files::read_counts;
+use c_files::set_up_slices;
 
 // What a run file asks for: the length of its input slice, and its budget.
 #[no_mangle]

@@ -5,4 +5,4 @@ pub mod sent;
 pub mod window;
 
 // How many numbers the cells of a machine are.
-pub const CELLS: usize = cells::CELLS;
+pub const CELLS: usize = c_cells::CELLS;

@@ -2,16 +2,16 @@
 ghost use mathlib.Core.Path.{_≡_};
 ghost use Rattle.machine.specs.Reset.{resetMachine};
 ghost use Rattle.answers.specs.Numbers.{numberOf};
-ghost use Rattle.cells.specs.Checks.{lengthAnswer, cellsAfter};
+ghost use Rattle.c_cells.specs.Checks.{lengthAnswer, cellsAfter};
 ghost use Rattle.desktop.specs.Calls.{called, stepCalled, runCalled};
 ghost use Rattle.board.specs.Given.{given};
-use cell_calls::cells_number;
-use cell_calls::cells_pass;
-use cell_calls::put_run;
-use cell_calls::put_step;
-use cell_calls::refused_run;
-use cell_calls::reset_cells;
-use cells::reading::machine_of;
+use c_cell_calls::cells_number;
+use c_cell_calls::cells_pass;
+use c_cell_calls::put_run;
+use c_cell_calls::put_step;
+use c_cell_calls::refused_run;
+use c_cell_calls::reset_cells;
+use c_cells::reading::machine_of;
 use emulator::run;
 use emulator::step;
 

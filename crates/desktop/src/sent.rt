@@ -1,7 +1,7 @@
 // The words sent.
 ghost use mathlib.Core.Path.{_≡_};
-ghost use Rattle.sent_calls.specs.Sent.{counted, sentCalled};
-use sent_calls::count_sent;
+ghost use Rattle.c_words_sent.specs.Sent.{counted, sentCalled};
+use c_words_sent::count_sent;
 
 // How many words were sent: they are the first of the output slice.
 #[no_mangle]

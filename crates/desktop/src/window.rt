@@ -1,7 +1,7 @@
 // The fetch window: in the program memory (1), in the data memory (2) or nowhere (0).
 ghost use mathlib.Core.Path.{_≡_};
-ghost use Rattle.shown.specs.Shown.{placed, windowCalled};
-use shown::window::place_window;
+ghost use Rattle.c_window.specs.Shown.{placed, windowCalled};
+use c_window::window::place_window;
 
 #[no_mangle]
 pub extern "C" fn crowmitten_window<'a>(

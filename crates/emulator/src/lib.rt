@@ -27,14 +27,14 @@ pub struct Ran {
     pub answer: Answer,
 }
 
-// A data store, made into its page's part.
+// A data store, made into its data page's part.
 fn store_data(data: &mut [u16], address: u32, word: u16)
     requires { ⌜ (length (now «data») ≡ 4096) × (address < 4096) ⌝ }
     ensures { λ _. ⌜ now («data» .exit) ≡ set (now («data» .entry)) address word ⌝ }
 {
-    let page = (address / 128) as u16;
+    let dp = (address / 128) as u16;
     let offset = (address % 128) as u16;
-    slices::store_word(data, page, offset, word);
+    slices::store_word(data, dp, offset, word);
 }
 
 // The one store of a step.

@@ -1,7 +1,7 @@
 -- What the encoder's proofs cite of the words: a page's bits field by field.
 use mathlib.Core.Path.{_≡_, sym, _∙_, ap}
 use Prim.Native.Nat.{ℕ, _+_, _*_, _%_, _^_}
-use Rattle.dma.specs.declared.Address.{Address}
+use Rattle.operands.specs.declared.Address.{Address}
 use Rattle.encodings.specs.Encode.{isIndirect, addressBits}
 use Rattle.encodings.specs.Bits.{fieldAfter, field-after}
 

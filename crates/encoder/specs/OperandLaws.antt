@@ -2,10 +2,10 @@
 use Prim.Native.Nat.{_<_}
 use native.Mathlib.Omega.{arith}
 use lib.Dec.{ltb→lt}
-use Rattle.dma.specs.declared.Modification.{Modification}
-use Rattle.dma.specs.declared.Modification.the-variants.{None, Minus, Plus, MinusReversed, MinusIndex, PlusIndex, PlusReversed}
-use Rattle.dma.specs.declared.NextArp.{NextArp}
-use Rattle.dma.specs.declared.NextArp.the-variants.{Same, To}
+use Rattle.operands.specs.declared.Modification.{Modification}
+use Rattle.operands.specs.declared.Modification.the-variants.{None, Minus, Plus, MinusReversed, MinusIndex, PlusIndex, PlusReversed}
+use Rattle.operands.specs.declared.NextArp.{NextArp}
+use Rattle.operands.specs.declared.NextArp.the-variants.{Same, To}
 use Rattle.encodings.specs.Encode.{modificationBits, nextBits}
 
 pub modification-lt : (m : Modification) → modificationBits m < 8

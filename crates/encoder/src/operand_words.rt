@@ -2,10 +2,10 @@
 ghost use mathlib.Core.Path.{_≡_};
 ghost use Prim.Native.Nat.{_+_, _*_, _%_};
 ghost use Rattle.encodings.specs.Encode.{modificationBits, nextBits, indirectBits, isIndirect, addressBits};
-use dma::Address;
-use dma::Indirect;
-use dma::Modification;
-use dma::NextArp;
+use operands::Address;
+use operands::Indirect;
+use operands::Modification;
+use operands::NextArp;
 
 // Bits 6 to 4 of an indirect operand (Table 4-1).
 fn modification_bits(m: Modification) -> u8

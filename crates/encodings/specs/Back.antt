@@ -15,8 +15,8 @@ use Rattle.instructions.specs.Pages.{pages}
 use Rattle.instructions.specs.Decode.{decodeOf, isBuilt}
 use Rattle.instructions.specs.Places.{placeIn, meaningIn, meaningAt, decode-at-place}
 use Rattle.instructions.specs.Past.{shared-unbuilt, past-pages}
-use Rattle.apart.specs.Apart.{own-meaning}
-use Rattle.apart.specs.Having.{hasAt}
+use Rattle.pages_apart.specs.Apart.{own-meaning}
+use Rattle.pages_apart.specs.Having.{hasAt}
 use Rattle.instructions.specs.declared.Instruction.{Instruction}
 use Rattle.instructions.specs.declared.Decoded.{Decoded}
 use Rattle.instructions.specs.declared.Decoded.the-variants.{Built, Unbuilt, Nothing}

@@ -8,7 +8,7 @@ use lib.Dec.{T, eqb, ltb, ltb→lt}
 use borrow.Author.Tests.{lt-ltb, le-ltb}
 use Rattle.instructions.specs.Every.{all, all-at, by-order}
 use Rattle.instructions.specs.Encoding.{pick, both, lowFits, addressModeOf, indirectOf, nextOf, modificationOf}
-use Rattle.dma.specs.declared.Address.the-variants as operand
+use Rattle.operands.specs.declared.Address.the-variants as operand
 use Rattle.encodings.specs.Encode.{isIndirect, addressBits, indirectBits, modificationBits, nextBits}
 use Rattle.encodings.specs.Rows.{fields}
 

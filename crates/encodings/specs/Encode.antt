@@ -5,13 +5,13 @@ use Prim.Native.String.{String, _++_}
 use lib.Text.{eqt}
 use Rattle.instructions.specs.Encoding.{Page, pick, printedAt, lowestOf}
 use Rattle.instructions.specs.Pages.{pages}
-use Rattle.dma.specs.declared.Modification.{Modification}
-use Rattle.dma.specs.declared.Modification.the-variants.{None, Minus, Plus, MinusReversed, MinusIndex, PlusIndex, PlusReversed}
-use Rattle.dma.specs.declared.NextArp.{NextArp}
-use Rattle.dma.specs.declared.NextArp.the-variants.{Same, To}
-use Rattle.dma.specs.declared.Indirect.{Indirect}
-use Rattle.dma.specs.declared.Address.{Address}
-use Rattle.dma.specs.declared.Address.the-variants as operand
+use Rattle.operands.specs.declared.Modification.{Modification}
+use Rattle.operands.specs.declared.Modification.the-variants.{None, Minus, Plus, MinusReversed, MinusIndex, PlusIndex, PlusReversed}
+use Rattle.operands.specs.declared.NextArp.{NextArp}
+use Rattle.operands.specs.declared.NextArp.the-variants.{Same, To}
+use Rattle.operands.specs.declared.Indirect.{Indirect}
+use Rattle.operands.specs.declared.Address.{Address}
+use Rattle.operands.specs.declared.Address.the-variants as operand
 use Rattle.instructions.specs.declared.Accumulator.{Accumulator}
 use Rattle.instructions.specs.declared.Accumulator.the-variants.{Add, Sub, Lac, Addh, Adds, Subh, Subs, Subc, Zalh, Zals, And, Or, Xor, Sacl, Sach, Lack, Addk, Subk, Cmpl, Neg, Abs, Sfl, Sfr}
 use Rattle.instructions.specs.declared.Multiplier.{Multiplier}

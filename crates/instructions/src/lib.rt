@@ -1,7 +1,7 @@
 // The decoded instruction: one case for each page of section 4.3 that is built, in the families of Table 4-4.
 
-use dma::Address;
-use dma::Indirect;
+use operands::Address;
+use operands::Indirect;
 
 // A shift stands first where a page has one; the constants are of 8 bits.
 pub enum Accumulator {

@@ -39,10 +39,10 @@ use Rattle.pages.specs.AuxiliaryPages.{LAR, SAR, LARK, MAR, ADRK, SBRK, LDP, LD
 use Rattle.pages.specs.ModesPages.{SOVM, ROVM, SSXM, RSXM, CNFD, CNFP, RPT, RPTK, PUSH, POP}
 use Rattle.pages.specs.TransfersPages.{DMOV, IN, OUT}
 use Rattle.instructions.specs.declared.Decoded.the-variants.{Built}
-use Rattle.dma.specs.declared.NextArp.{NextArp}
-use Rattle.dma.specs.declared.NextArp.the-variants.{Same, To}
-use Rattle.dma.specs.declared.Indirect.{Indirect}
-use Rattle.dma.specs.declared.Address.the-variants as Mode
+use Rattle.operands.specs.declared.NextArp.{NextArp}
+use Rattle.operands.specs.declared.NextArp.the-variants.{Same, To}
+use Rattle.operands.specs.declared.Indirect.{Indirect}
+use Rattle.operands.specs.declared.Address.the-variants as Mode
 use Rattle.pages.specs.declared.Effect.{Effect}
 use Rattle.pages.specs.declared.Jump.the-variants as Jump
 use Rattle.pages.specs.Passes.{destination, followed}

@@ -6,9 +6,9 @@ use Rattle.machine.specs.declared.Machine.{Machine}
 use Rattle.answers.specs.declared.Answer.{Answer}
 use Rattle.answers.specs.Numbers.{numberOf}
 use Rattle.board.specs.Windows.{wordsSent}
-use Rattle.digits.specs.Digits.{hexadecimal, decimal}
-use Rattle.fields.specs.Placing.{space, newline, lineIn, lengthIn}
-use Rattle.fields.specs.Facts.{wordFields, cellFields, linePut}
+use Rattle.line_digits.specs.Digits.{hexadecimal, decimal}
+use Rattle.line_fields.specs.Placing.{space, newline, lineIn, lengthIn}
+use Rattle.line_fields.specs.Facts.{wordFields, cellFields, linePut}
 use Rattle.line.specs.Lines.{parted, lineOf, refusedLine}
 
 parted-words : (field : List ℕ) (words : List ℕ) → parted (field ∷ map (hexadecimal 4) words) ≡ (field ++ wordFields words) ++ (newline ∷ [])

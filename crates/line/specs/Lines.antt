@@ -1,8 +1,8 @@
 -- The one line of a run, as bytes (document 01, "The run file and its one line").
 use mathlib.Core.List.{List, [], _∷_, _++_, map}
 use Prim.Native.Nat.{ℕ}
-use Rattle.digits.specs.Digits.{hexadecimal, decimal}
-use Rattle.fields.specs.Placing.{space, newline}
+use Rattle.line_digits.specs.Digits.{hexadecimal, decimal}
+use Rattle.line_fields.specs.Placing.{space, newline}
 use Rattle.machine.specs.declared.Machine.{Machine}
 use Rattle.answers.specs.declared.Answer.{Answer}
 use Rattle.answers.specs.Numbers.{numberOf}

@@ -1,11 +1,11 @@
 // The one line that a run file gives.
 ghost use mathlib.Core.Path.{_≡_};
-ghost use Rattle.fields.specs.Placing.{lineIn, lengthIn};
+ghost use Rattle.line_fields.specs.Placing.{lineIn, lengthIn};
 ghost use Rattle.line.specs.Lines.{lineOf, refusedLine};
 use answers::Answer;
 use answers::number;
-use fields::fitting::fit_line;
-use fields::fitting::fit_number;
+use line_fields::fitting::fit_line;
+use line_fields::fitting::fit_number;
 use machine::Machine;
 use windows::words_sent;
 

@@ -16,10 +16,10 @@ use denote.Memory.{cellAt, partAt, partOf}
 use denote.Steps.{only}
 use denote.Struct.Laws as LL
 use Rattle.machine.specs.Cells.{withStack}
-use Rattle.stack.specs.declared.Stack.{Stack}
+use Rattle.hardware_stack.specs.declared.Stack.{Stack}
 use Rattle.machine.specs.declared.Machine.{Machine}
-use Rattle.stack.proofs.Stack as S
-use Rattle.stack.proofs.Stack.Laws as S′
+use Rattle.hardware_stack.proofs.Stack as S
+use Rattle.hardware_stack.proofs.Stack.Laws as S′
 use Rattle.machine.proofs.Machine as T
 use Rattle.machine.proofs.Machine.Laws as T′
 

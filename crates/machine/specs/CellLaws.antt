@@ -6,11 +6,11 @@ use Prim.Native.Nat.{ℕ}
 use Prim.Native.String.{String}
 use lib.Dec.{T, eqb, eqb→eq}
 use lib.Text.{eqt, eqt→eq, eqt-refl}
-use Rattle.stack.specs.declared.Stack.{Stack}
+use Rattle.hardware_stack.specs.declared.Stack.{Stack}
 use Rattle.machine.specs.declared.Machine.{Machine}
-use Rattle.machine.specs.Table.{Cell, cells, chosen, only, inColumn, countOf, rowsOf}
+use Rattle.machine.specs.Table.{Cell, cells, chosen, only, inColumn, countOf, rowsHeld}
 use Rattle.machine.specs.Cells.{built, put, putWords, withAr, withStack}
-use Rattle.machine.specs.Facts.{Sets, Setter, setters, wordsIn, numberIn}
+use Rattle.machine.specs.Facts.{Sets, Setter, setters, cellWords, cellNumber}
 
 -- ---- a machine that is built holds under each name what was given for it
 
@@ -34,7 +34,7 @@ module _ (number : String → ℕ) (words : String → List ℕ) where
   abbrev pub builtBy : Machine
   builtBy = built (λ n field. number n) (λ n field. words n)
 
-  pub rows-built : rowsOf builtBy ≡ rowsBuilt number words cells
+  pub rows-built : rowsHeld builtBy ≡ rowsBuilt number words cells
   rows-built = refl
 
   named : (cs : List Cell) (name : String) → rowNamed cs (rowsBuilt number words cs) name ≡ inColumn (given number words name) [] cs name
@@ -46,7 +46,7 @@ module _ (number : String → ℕ) (words : String → List ℕ) where
       by true e h = ap (λ (n : String). given number words n c) (e tt)
       by false e h = h
 
-  pub built-holds : (name : String) → wordsIn builtBy name ≡ inColumn (given number words name) [] cells name
+  pub built-holds : (name : String) → cellWords builtBy name ≡ inColumn (given number words name) [] cells name
   built-holds name = named cells name
 
 -- ---- the setters
@@ -77,23 +77,23 @@ put-back A held name n x = by (eqt n name) (eqt→eq n name)
     by false e = refl
 
 -- for each single cell
-pub number-sets : (name : String) → T (eqb (countOf name) 1) → Sets ℕ (λ (m : Machine). numberIn m name) (put name)
+pub number-sets : (name : String) → T (eqb (countOf name) 1) → Sets ℕ (λ (m : Machine). cellNumber m name) (put name)
 number-sets name h = record {
   gives = λ m x.
-      ap only (built-holds (λ n. chosen (eqt n name) x (numberIn m n)) (wordsIn m) name)
-      ∙ ap only (by-count (λ k. chosen (eqb k 1) (chosen (eqt name name) x (numberIn m name) ∷ []) (wordsIn m name)) 1 (λ e. e) cells name h)
-      ∙ same-name name x (numberIn m name);
-  restores = λ m x. λ i. builtBy (λ n. put-back ℕ (numberIn m) name n x i) (wordsIn m);
+      ap only (built-holds (λ n. chosen (eqt n name) x (cellNumber m n)) (cellWords m) name)
+      ∙ ap only (by-count (λ k. chosen (eqb k 1) (chosen (eqt name name) x (cellNumber m name) ∷ []) (cellWords m name)) 1 (λ e. e) cells name h)
+      ∙ same-name name x (cellNumber m name);
+  restores = λ m x. λ i. builtBy (λ n. put-back ℕ (cellNumber m) name n x i) (cellWords m);
 }
 
 -- and for AR and the stack
-pub words-sets : (name : String) → T (eqb (countOf name) 8) → Sets (List ℕ) (λ (m : Machine). wordsIn m name) (putWords name)
+pub words-sets : (name : String) → T (eqb (countOf name) 8) → Sets (List ℕ) (λ (m : Machine). cellWords m name) (putWords name)
 words-sets name h = record {
   gives = λ m x.
-      built-holds (numberIn m) (λ n. chosen (eqt n name) x (wordsIn m n)) name
-      ∙ by-count (λ k. chosen (eqb k 1) (numberIn m name ∷ []) (chosen (eqt name name) x (wordsIn m name))) 8 (λ e. e) cells name h
-      ∙ same-name name x (wordsIn m name);
-  restores = λ m x. λ i. builtBy (numberIn m) (λ n. put-back (List ℕ) (wordsIn m) name n x i);
+      built-holds (cellNumber m) (λ n. chosen (eqt n name) x (cellWords m n)) name
+      ∙ by-count (λ k. chosen (eqb k 1) (cellNumber m name ∷ []) (chosen (eqt name name) x (cellWords m name))) 8 (λ e. e) cells name h
+      ∙ same-name name x (cellWords m name);
+  restores = λ m x. λ i. builtBy (cellNumber m) (λ n. put-back (List ℕ) (cellWords m) name n x i);
 }
 
 pub ar-sets : Sets (List ℕ) (λ (m : Machine). m .ar) withAr
@@ -118,7 +118,7 @@ each-has-setter = refl
 
 abbrev pub EachSets : List Setter → Type 0
 EachSets [] = Unit {0}
-EachSets (s ∷ ss) = Sets ℕ (λ (m : Machine). numberIn m (s .cell)) (s .with) × EachSets ss
+EachSets (s ∷ ss) = Sets ℕ (λ (m : Machine). cellNumber m (s .cell)) (s .with) × EachSets ss
 
 allSingle : List Setter → Bool
 allSingle [] = true
@@ -134,8 +134,8 @@ unfolding byName allSingle
 named-set [] h = tt
 named-set (s ∷ ss) h = by (eqb (countOf (s .cell)) 1) (number-sets (s .cell)) (named-set ss) h
   where
-    by : (t : Bool) → (T t → Sets ℕ (λ (m : Machine). numberIn m (s .cell)) (put (s .cell))) → (T (allSingle ss) → EachSets (byName ss))
-        → T (chosen t (allSingle ss) false) → Sets ℕ (λ (m : Machine). numberIn m (s .cell)) (put (s .cell)) × EachSets (byName ss)
+    by : (t : Bool) → (T t → Sets ℕ (λ (m : Machine). cellNumber m (s .cell)) (put (s .cell))) → (T (allSingle ss) → EachSets (byName ss))
+        → T (chosen t (allSingle ss) false) → Sets ℕ (λ (m : Machine). cellNumber m (s .cell)) (put (s .cell)) × EachSets (byName ss)
     by true first rest h = (first tt, rest h)
     by false first rest h = absurd h
 

@@ -4,7 +4,7 @@ use Prim.Native.Nat.{ℕ}
 use Prim.Native.String.{String}
 use lib.ListN.{getD, set}
 use lib.Text.{eqt}
-use Rattle.stack.specs.declared.Stack.{Stack}
+use Rattle.hardware_stack.specs.declared.Stack.{Stack}
 use Rattle.machine.specs.declared.Machine.{Machine}
 use Rattle.machine.specs.Table.{chosen}
 

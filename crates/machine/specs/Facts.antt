@@ -5,7 +5,7 @@ use Prim.Native.Nat.{ℕ, _≤_}
 use Prim.Native.String.{String}
 use lib.ListN.{length}
 use Rattle.machine.specs.declared.Machine.{Machine}
-use Rattle.machine.specs.Table.{Cell, cells, inColumn, only, rowsOf}
+use Rattle.machine.specs.Table.{Cell, cells, inColumn, only, rowsHeld}
 use Rattle.machine.specs.Cells.{withAcc, withP, withT, withPc, withPfc, withArp, withArb, withDp, withPm, withOv, withOvm, withSxm, withC, withCnf, withMid, withRptc, withInputCursor, withOutputCursor}
 
 -- ---- setters
@@ -48,11 +48,11 @@ setters =
 -- ---- ranges
 
 -- the words of the cell of a name, and the one word of a single cell
-abbrev pub wordsIn : Machine → String → List ℕ
-wordsIn m name = inColumn (λ c. c .held m) [] cells name
+abbrev pub cellWords : Machine → String → List ℕ
+cellWords m name = inColumn (λ c. c .held m) [] cells name
 
-abbrev pub numberIn : Machine → String → ℕ
-numberIn m name = only (wordsIn m name)
+abbrev pub cellNumber : Machine → String → ℕ
+cellNumber m name = only (cellWords m name)
 
 -- the largest number of the cell of a name
 abbrev pub largestOf : String → ℕ
@@ -70,7 +70,7 @@ RowsWithin limit (c ∷ cs) [] = ⊥
 RowsWithin limit (c ∷ cs) (row ∷ rows) = ((length row ≡ c .count) × AllMost (limit (c .name)) row) × RowsWithin limit cs rows
 
 pub record Within (limit : String → ℕ) (m : Machine) : Type 0 where
-  pub rows : RowsWithin limit cells (rowsOf m)
+  pub rows : RowsWithin limit cells (rowsHeld m)
 
 -- what a machine that passes check 1 is known to hold
 abbrev pub Ranged : Machine → Type 0

@@ -5,7 +5,7 @@ use Prim.Native.Nat.{ℕ}
 use lib.Dec.{leb, eqb}
 use lib.ListN.{length}
 use Rattle.machine.specs.declared.Machine.{Machine}
-use Rattle.machine.specs.Table.{Cell, cells, rowsOf}
+use Rattle.machine.specs.Table.{Cell, cells, rowsHeld}
 
 -- no word is above the largest number
 abbrev pub noneAbove : ℕ → List ℕ → Bool
@@ -23,4 +23,4 @@ rowsInRange (c ∷ cs) (row ∷ rows) = rowInRange c row && rowsInRange cs rows
 
 -- "1: a cell is outside its stated range" is given exactly where this test fails.
 unfoldable pub inRange : Machine → Bool
-inRange m = rowsInRange cells (rowsOf m)
+inRange m = rowsInRange cells (rowsHeld m)

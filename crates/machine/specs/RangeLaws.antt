@@ -10,11 +10,11 @@ use lib.ListN.{length, getD}
 use lib.Text.{eqt, eqt→eq}
 use borrow.Author.Tests.{leb-true, le-leb, eqb-true, eq-eqb}
 use Rattle.machine.specs.declared.Machine.{Machine}
-use Rattle.machine.specs.Table.{Cell, cells, chosen, only, countOf, inColumn, rowsIn, rowsOf}
+use Rattle.machine.specs.Table.{Cell, cells, chosen, only, countOf, inColumn, rowsHeldOf, rowsHeld}
 use Rattle.machine.specs.Cells.{put, putWords}
 use Rattle.machine.specs.Reset.{resetMachine}
 use Rattle.machine.specs.Range.{noneAbove, rowInRange, rowsInRange, inRange}
-use Rattle.machine.specs.Facts.{largestOf, wordsIn, numberIn, AllMost, RowsWithin, Within, Ranged}
+use Rattle.machine.specs.Facts.{largestOf, cellWords, cellNumber, AllMost, RowsWithin, Within, Ranged}
 
 -- two tests and both of them
 both : (a b : Bool) → a && b ≡ true → (a ≡ true) × (b ≡ true)
@@ -79,12 +79,12 @@ rows-in-range (c ∷ cs) (row ∷ rows) o w =
 
 pub ranged : (m : Machine) → inRange m ≡ true → Ranged m
 unfolding inRange ownRows
-ranged m h = record { rows = rows-ranged cells (rowsOf m) refl h }
+ranged m h = record { rows = rows-ranged cells (rowsHeld m) refl h }
 
 -- and back
 pub in-range : (m : Machine) → Ranged m → inRange m ≡ true
 unfolding inRange ownRows
-in-range m r = rows-in-range cells (rowsOf m) refl (r .rows)
+in-range m r = rows-in-range cells (rowsHeld m) refl (r .rows)
 
 pub reset-in-range : inRange resetMachine ≡ true
 unfolding inRange resetMachine
@@ -103,7 +103,7 @@ only-most limit (x ∷ xs) h = h .0
 
 module _ (limit : String → ℕ) (m : Machine) where
   -- the row of a name is of its count and within its limit
-  row-within : (cs : List Cell) (name : String) → RowsWithin limit cs (rowsIn cs m)
+  row-within : (cs : List Cell) (name : String) → RowsWithin limit cs (rowsHeldOf cs m)
       → (length (inColumn (λ c. c .held m) [] cs name) ≡ inColumn (λ c. c .count) 0 cs name) × AllMost (limit name) (inColumn (λ c. c .held m) [] cs name)
   row-within [] name w = (refl, tt)
   row-within (c ∷ cs) name w = by (eqt (c .name) name) (eqt→eq (c .name) name) _ _ (row-within cs name (w .1))
@@ -114,17 +114,17 @@ module _ (limit : String → ℕ) (m : Machine) where
       by false e row n h = h
 
 module _ {limit : String → ℕ} {m : Machine} (w : Within limit m) (name : String) where
-  pub words-most : AllMost (limit name) (wordsIn m name)
+  pub words-most : AllMost (limit name) (cellWords m name)
   words-most = row-within limit m cells name (w .rows) .1
 
-  pub words-count : length (wordsIn m name) ≡ countOf name
+  pub words-count : length (cellWords m name) ≡ countOf name
   words-count = row-within limit m cells name (w .rows) .0
 
-  pub word-most : (k : ℕ) → getD (wordsIn m name) k 0 ≤ limit name
-  word-most k = most-at (limit name) (wordsIn m name) k words-most
+  pub word-most : (k : ℕ) → getD (cellWords m name) k 0 ≤ limit name
+  word-most k = most-at (limit name) (cellWords m name) k words-most
 
-  pub most : numberIn m name ≤ limit name
-  most = only-most (limit name) (wordsIn m name) words-most
+  pub most : cellNumber m name ≤ limit name
+  most = only-most (limit name) (cellWords m name) words-most
 
 -- ---- a setter keeps every cell within its limit where what is put is
 
@@ -173,11 +173,11 @@ module _ (limit : String → ℕ) (name : String) where
 
 module _ {limit : String → ℕ} {m : Machine} (w : Within limit m) (name : String) where
   pub put-within : {x : ℕ} → x ≤ limit name → Within limit (put name m x)
-  put-within {x} h = record { rows = number-rows limit name x h cells (rowsOf m) (w .rows) }
+  put-within {x} h = record { rows = number-rows limit name x h cells (rowsHeld m) (w .rows) }
 
   pub put-words-within : (words : List ℕ) → length words ≡ countOf name → AllMost (limit name) words → Within limit (putWords name m words)
   unfolding ownRows
-  put-words-within words n h = record { rows = words-rows limit name words n h cells (rowsOf m) refl (w .rows) }
+  put-words-within words n h = record { rows = words-rows limit name words n h cells (rowsHeld m) refl (w .rows) }
 
 -- ---- the tests that code makes: those of the cells whose fields could hold more
 
@@ -221,9 +221,9 @@ tests-all t (c ∷ cs) (row ∷ rows) f = by (tested c) (λ g. tests-all (t && r
     by true next skip f = next f ∙ and-and t (rowInRange c row) (rowsInRange cs rows)
     by false next skip f = rw (eq-eqb _ _ (f .0 .0), none-above (c .largest) row (f .0 .1)) (skip (f .1))
 
-pub in-range-tested : (m : Machine) → FieldsHold cells (rowsOf m) → testsFrom true cells (rowsOf m) ≡ inRange m
+pub in-range-tested : (m : Machine) → FieldsHold cells (rowsHeld m) → testsFrom true cells (rowsHeld m) ≡ inRange m
 unfolding inRange
-in-range-tested m f = tests-all true cells (rowsOf m) f
+in-range-tested m f = tests-all true cells (rowsHeld m) f
 
 -- words each of which is within a limit
 pub each-most : (limit : ℕ) (xs : List ℕ) → ((k : ℕ) → getD xs k 0 ≤ limit) → AllMost limit xs

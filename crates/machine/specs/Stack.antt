@@ -1,6 +1,6 @@
 -- The stack "is pushed and popped in the place where the machine holds it" (document 01).
 use Prim.Native.Nat.{ℕ}
-use Rattle.stack.specs.Stack.{pushOf, popOf, topOf}
+use Rattle.hardware_stack.specs.Stack.{pushOf, popOf, topOf}
 use Rattle.machine.specs.declared.Machine.{Machine}
 use Rattle.machine.specs.declared.AfterPop.{AfterPop}
 use Rattle.machine.specs.Cells.{withStack}

@@ -92,12 +92,12 @@ only (x ∷ xs) = x
 -- ---- rows
 
 -- a cell's place among the words of all rows, and how many they are
-abbrev pub placeIn : List Cell → String → ℕ
-placeIn [] name = 0
-placeIn (c ∷ cs) name = chosen (eqt (c .name) name) 0 (c .count + placeIn cs name)
+abbrev pub cellPlaceIn : List Cell → String → ℕ
+cellPlaceIn [] name = 0
+cellPlaceIn (c ∷ cs) name = chosen (eqt (c .name) name) 0 (c .count + cellPlaceIn cs name)
 
-abbrev pub placeOf : String → ℕ
-placeOf name = placeIn cells name
+abbrev pub cellPlaceOf : String → ℕ
+cellPlaceOf name = cellPlaceIn cells name
 
 abbrev pub wordCount : List Cell → ℕ
 wordCount [] = 0
@@ -107,9 +107,9 @@ abbrev pub cellCount : ℕ
 cellCount = wordCount cells
 
 -- the words of every row of a machine
-abbrev pub rowsIn : List Cell → Machine → List (List ℕ)
-rowsIn [] m = []
-rowsIn (c ∷ cs) m = c .held m ∷ rowsIn cs m
+abbrev pub rowsHeldOf : List Cell → Machine → List (List ℕ)
+rowsHeldOf [] m = []
+rowsHeldOf (c ∷ cs) m = c .held m ∷ rowsHeldOf cs m
 
-abbrev pub rowsOf : Machine → List (List ℕ)
-rowsOf m = rowsIn cells m
+abbrev pub rowsHeld : Machine → List (List ℕ)
+rowsHeld m = rowsHeldOf cells m

@@ -2,9 +2,9 @@ ghost use mathlib.Core.Path.{_≡_};
 ghost use Rattle.machine.specs.Reset.{resetMachine};
 ghost use Rattle.machine.specs.Range.{inRange};
 ghost use Rattle.machine.specs.Stack.{pushOn, popOn};
-use stack::Stack;
-use stack::pop;
-use stack::push;
+use hardware_stack::Stack;
+use hardware_stack::pop;
+use hardware_stack::push;
 
 // The cells of document 01, "The cells of the machine". Flags and pointers are numbers, so that check 1 can find one out of its range.
 pub struct Machine {

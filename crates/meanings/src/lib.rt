@@ -5,10 +5,6 @@ ghost use Rattle.instructions.specs.Encoding.{modificationOf, nextOf, indirectO
 ghost use Rattle.instructions.specs.Encoding.{accumulator, multiplier, auxiliary, branches, transfers, modes};
 ghost use Rattle.instructions.specs.Places.{meaningAt};
 ghost use Rattle.instructions.specs.declared.Decoded.the-variants.{Built};
-use dma::Address;
-use dma::Indirect;
-use dma::Modification;
-use dma::NextArp;
 use instructions::Accumulator;
 use instructions::Auxiliary;
 use instructions::Branches;
@@ -17,6 +13,10 @@ use instructions::Instruction;
 use instructions::Modes;
 use instructions::Multiplier;
 use instructions::Transfers;
+use operands::Address;
+use operands::Indirect;
+use operands::Modification;
+use operands::NextArp;
 
 // The number of the base's pages, which stand first in the list, and of all pages.
 const BASE_PAGES: u8 = 75;

@@ -3,12 +3,12 @@ use Prim.Native.Nat.{ℕ, _+_, _*_}
 use Rattle.alu.specs.Registers.{wrappedSum, wrappedDifference, reversedSum, reversedDifference}
 use Rattle.machine.specs.declared.Machine.{Machine}
 use Rattle.machine.specs.Cells.{withArp, withArb, register, withRegister}
-use Rattle.dma.specs.declared.Modification.{Modification}
-use Rattle.dma.specs.declared.Modification.the-variants.{None, Minus, Plus, MinusReversed, MinusIndex, PlusIndex, PlusReversed}
-use Rattle.dma.specs.declared.NextArp.{NextArp}
-use Rattle.dma.specs.declared.NextArp.the-variants.{Same, To}
-use Rattle.dma.specs.declared.Indirect.{Indirect}
-use Rattle.dma.specs.declared.Address.the-variants as Mode
+use Rattle.operands.specs.declared.Modification.{Modification}
+use Rattle.operands.specs.declared.Modification.the-variants.{None, Minus, Plus, MinusReversed, MinusIndex, PlusIndex, PlusReversed}
+use Rattle.operands.specs.declared.NextArp.{NextArp}
+use Rattle.operands.specs.declared.NextArp.the-variants.{Same, To}
+use Rattle.operands.specs.declared.Indirect.{Indirect}
+use Rattle.operands.specs.declared.Address.the-variants as Mode
 use Rattle.pages.specs.declared.Operand.{Operand}
 use Rattle.pages.specs.declared.Operand.the-variants.{Nothing, At}
 

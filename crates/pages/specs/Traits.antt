@@ -2,9 +2,9 @@
 -- addressed data word, whether it reads a table word, and its port.
 use mathlib.Core.Bool.{true, false}
 use Prim.Native.Nat.{ℕ}
-use Rattle.dma.specs.declared.Indirect.{Indirect}
-use Rattle.dma.specs.declared.Address.{Address}
-use Rattle.dma.specs.declared.Address.the-variants as Mode
+use Rattle.operands.specs.declared.Indirect.{Indirect}
+use Rattle.operands.specs.declared.Address.{Address}
+use Rattle.operands.specs.declared.Address.the-variants as Mode
 use Rattle.instructions.specs.declared.Instruction.{Instruction}
 use Rattle.instructions.specs.declared.Instruction.the-variants as Family
 use Rattle.instructions.specs.declared.Accumulator.{Accumulator}

@@ -1,6 +1,6 @@
 // What the pages say, in specs/ alone: the functions that do it stand above, a crate for each family. Here are only the types that they share.
-use dma::Address;
 use machine::Machine;
+use operands::Address;
 
 // What an instruction's address field asks for.
 pub enum Operand {

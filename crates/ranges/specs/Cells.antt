@@ -11,11 +11,11 @@ use lib.Text.{eqt, eqt→eq}
 use Rattle.machine.specs.declared.Machine.{Machine}
 use Rattle.machine.specs.Table.{chosen}
 use Rattle.machine.specs.Cells.{put, putWords, withRegister}
-use Rattle.machine.specs.Facts.{largestOf, wordsIn, numberIn, AllMost, Ranged}
+use Rattle.machine.specs.Facts.{largestOf, cellWords, cellNumber, AllMost, Ranged}
 use Rattle.machine.specs.RangeLaws.{words-most, words-count, word-most, most, put-within, put-words-within}
-use Rattle.stack.specs.Stack.{pushOf, popOf, topOf}
+use Rattle.hardware_stack.specs.Stack.{pushOf, popOf, topOf}
 use Rattle.machine.specs.Stack.{pushOn, popOn}
-use Rattle.stack.specs.StackLaws.{push-length, pop-length}
+use Rattle.hardware_stack.specs.StackLaws.{push-length, pop-length}
 use Rattle.ranges.specs.Ranges.{WordsFit}
 
 -- ---- words of lists
@@ -96,8 +96,8 @@ set-cell name {i} {o} {m} f {x} h =
 
 module _ {i o : ℕ} {m : Machine} (f : Fits i o m) where
   -- AR and the stack are of eight words of 16 bits
-  pub words-fit : (name : String) → largestOf name ≡ 65535 → WordsFit (wordsIn m name)
-  words-fit name e = most-fit (wordsIn m name) (rw e at (words-most (f .ranged) name))
+  pub words-fit : (name : String) → largestOf name ≡ 65535 → WordsFit (cellWords m name)
+  words-fit name e = most-fit (cellWords m name) (rw e at (words-most (f .ranged) name))
 
   pub set-register : (r x : ℕ) → x < 2 ^ 16 → Fits i o (withRegister m r x)
   set-register r x h = record {
@@ -138,7 +138,7 @@ module _ {i o : ℕ} {m : Machine} (f : Fits i o m) where
   top-fits = word-at (m .stack .words) 0 (words-fit "stack" refl)
 
   -- the cell of this name is below the number after its largest
-  pub cell-fits : (name : String) → numberIn m name < suc (largestOf name)
+  pub cell-fits : (name : String) → cellNumber m name < suc (largestOf name)
   cell-fits name = omega (arith, most (f .ranged) name)
 
   pub register-fits : (r : ℕ) → getD (m .ar) r 0 < 2 ^ 16

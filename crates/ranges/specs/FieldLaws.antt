@@ -6,8 +6,8 @@ use Prim.Native.Nat.{ℕ, _/_, _%_}
 use native.Mathlib.Omega.{arith}
 use lib.Dec.{eqb, ltb}
 use borrow.Author.Tests.{ltb-true}
-use Rattle.dma.specs.declared.NextArp.the-variants.{Same, To}
-use Rattle.dma.specs.declared.Address.the-variants as Mode
+use Rattle.operands.specs.declared.NextArp.the-variants.{Same, To}
+use Rattle.operands.specs.declared.Address.the-variants as Mode
 use Rattle.instructions.specs.declared.Decoded.{Decoded}
 use Rattle.instructions.specs.declared.Decoded.the-variants.{Built, Unbuilt, Nothing}
 use Rattle.instructions.specs.Encoding.{Page, pick, has, means, first, addressModeOf, indirectOf, nextOf}

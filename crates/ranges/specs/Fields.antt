@@ -1,10 +1,10 @@
 -- The widths of an instruction's fields, by the bits that its page prints for them.
 use Prim.Native.Nat.{_<_}
-use Rattle.dma.specs.declared.NextArp.{NextArp}
-use Rattle.dma.specs.declared.NextArp.the-variants.{Same, To}
-use Rattle.dma.specs.declared.Indirect.{Indirect}
-use Rattle.dma.specs.declared.Address.{Address}
-use Rattle.dma.specs.declared.Address.the-variants as Mode
+use Rattle.operands.specs.declared.NextArp.{NextArp}
+use Rattle.operands.specs.declared.NextArp.the-variants.{Same, To}
+use Rattle.operands.specs.declared.Indirect.{Indirect}
+use Rattle.operands.specs.declared.Address.{Address}
+use Rattle.operands.specs.declared.Address.the-variants as Mode
 use Rattle.instructions.specs.declared.Instruction.{Instruction}
 use Rattle.instructions.specs.declared.Instruction.the-variants as Family
 use Rattle.instructions.specs.declared.Accumulator.{Accumulator}

@@ -9,11 +9,11 @@ use lib.ListN.{length, take}
 use lib.Seq.{slice}
 use borrow.Author.Tests.{leb-false}
 use Rattle.machine.specs.declared.Machine.{Machine}
-use Rattle.dma.specs.declared.Modification.{Modification}
-use Rattle.dma.specs.declared.Modification.the-variants.{None, Minus, Plus, MinusReversed, MinusIndex, PlusIndex, PlusReversed}
-use Rattle.dma.specs.declared.NextArp.{NextArp}
-use Rattle.dma.specs.declared.NextArp.the-variants.{Same, To}
-use Rattle.dma.specs.declared.Address.the-variants as Mode
+use Rattle.operands.specs.declared.Modification.{Modification}
+use Rattle.operands.specs.declared.Modification.the-variants.{None, Minus, Plus, MinusReversed, MinusIndex, PlusIndex, PlusReversed}
+use Rattle.operands.specs.declared.NextArp.{NextArp}
+use Rattle.operands.specs.declared.NextArp.the-variants.{Same, To}
+use Rattle.operands.specs.declared.Address.the-variants as Mode
 use Rattle.instructions.specs.declared.Instruction.{Instruction}
 use Rattle.instructions.specs.declared.Instruction.the-variants as Family
 use Rattle.instructions.specs.declared.Accumulator.{Accumulator}

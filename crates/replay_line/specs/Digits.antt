@@ -7,8 +7,8 @@ use native.Mathlib.Omega.{arith}
 use lib.Dec.{ltb}
 use lib.ListN.{length, length-append}
 use borrow.Author.Tests.{ltb-true, ltb-false}
-use Rattle.digits.specs.Digits.{digitOf, decimal}
-use Rattle.digits.specs.DigitLaws.{decimal-one, decimal-more}
+use Rattle.line_digits.specs.Digits.{digitOf, decimal}
+use Rattle.line_digits.specs.DigitLaws.{decimal-one, decimal-more}
 use Rattle.answers.specs.declared.Answer.{Answer}
 use Rattle.answers.specs.declared.Answer.the-variants.{Done, CellOutOfRange, SlicesUnfit, NoEncoding, NotBuilt, ProgramAbsent, DataAbsent, NotRepeatable, AddressAbove, WrongPort, OutputFull, FileShort, FileVersion, FileRules, FileNoRoom}
 use Rattle.answers.specs.Numbers.{numberOf}

@@ -4,7 +4,7 @@ use mathlib.Core.List.{List, _++_}
 use Prim.Native.Nat.{ℕ, _+_, _*_, _≤_}
 use lib.ListN.{length, drop}
 use Rattle.runfile.specs.Facts.{Below}
-use Rattle.fields.specs.Placing.{lineIn, lengthIn}
+use Rattle.line_fields.specs.Placing.{lineIn, lengthIn}
 use Rattle.replay_line.specs.Replay.{replayLine}
 
 -- an answer of 2 digits, steps of 5, PC of 4, ACC of 8 and OV of 1, with the four spaces between them; 1,024 words sent, each a space and 4 digits; the newline

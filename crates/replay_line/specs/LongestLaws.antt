@@ -17,14 +17,14 @@ use Rattle.board.specs.Given.{Given}
 use Rattle.runfile.specs.Files.{readAnswer, readContents, contentsFit}
 use Rattle.runfile.specs.Facts.{Below}
 use Rattle.runfile.specs.FileLaws.{counts-facts}
-use Rattle.round_trips.specs.RoundTrip.{read-within, read-sixteen-bits}
+use Rattle.runfile_round_trips.specs.RoundTrip.{read-within, read-sixteen-bits}
 use Rattle.steps.specs.World.{World, RunOutcome}
 use Rattle.steps.specs.Step.{stepOf, runOf}
 use Rattle.laws.specs.Runs.{run-none, run-done, run-refused, by-first}
 use Rattle.ranges.specs.Ranges.{WorldInRange}
 use Rattle.ranges.specs.Runs.{runs-in-range}
-use Rattle.fields.specs.Placing.{lineIn, lengthIn}
-use Rattle.fields.specs.PlacingLaws.{line-length, number-length}
+use Rattle.line_fields.specs.Placing.{lineIn, lengthIn}
+use Rattle.line_fields.specs.PlacingLaws.{line-length, number-length}
 use Rattle.line.specs.Lines.{refusedLine, parted}
 use Rattle.line.specs.LineLaws.{line-of}
 use Rattle.replay_line.specs.Replay.{startOf, replayRun, runLine, replayLine, givenOf}

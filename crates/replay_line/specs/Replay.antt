@@ -6,7 +6,7 @@ use lib.ListN.{replicate}
 use Rattle.machine.specs.Reset.{resetMachine}
 use Rattle.answers.specs.Numbers.{isDone}
 use Rattle.runfile.specs.Files.{Contents, readAnswer, readContents}
-use Rattle.setting_up.specs.SetUp.{loaded}
+use Rattle.runfile_setting_up.specs.SetUp.{loaded}
 use Rattle.board.specs.Given.{Given, given}
 use Rattle.steps.specs.World.{World, RunOutcome}
 use Rattle.steps.specs.Step.{runOf}

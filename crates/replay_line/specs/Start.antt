@@ -5,8 +5,8 @@ use native.Mathlib.Omega.{arith}
 use lib.ListN.{length, replicate, length-replicate}
 use Rattle.runfile.specs.Files.{Contents}
 use Rattle.runfile.specs.Facts.{Below, CountsKept, SixteenBits}
-use Rattle.setting_up.specs.SetUp.{memoryWith, loaded}
-use Rattle.setting_up.specs.MemoryLaws.{memory-length}
+use Rattle.runfile_setting_up.specs.SetUp.{memoryWith, loaded}
+use Rattle.runfile_setting_up.specs.MemoryLaws.{memory-length}
 use Rattle.ranges.specs.Ranges.{WordsFit, WorldInRange}
 use Rattle.ranges.specs.Runs.{start-in-range}
 use Rattle.replay_line.specs.Replay.{givenOf, startOf}

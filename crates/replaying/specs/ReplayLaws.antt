@@ -16,12 +16,12 @@ use Rattle.board.specs.Slices.{memoriesFit}
 use Rattle.board.specs.Given.{given}
 use Rattle.runfile.specs.declared.reading.Head.{Head}
 use Rattle.runfile.specs.Files.{numbersOf, rulesKept, readAnswer, readContents, headOf}
-use Rattle.setting_up.specs.SetUp.{lent, lentFit, setUpAnswer, loaded, setUp}
+use Rattle.runfile_setting_up.specs.SetUp.{lent, lentFit, setUpAnswer, loaded, setUp}
 use Rattle.runfile.specs.FileLaws.{accepted, head-read, rules-facts}
 use Rattle.emulator.specs.declared.Ran.{Ran}
 use Rattle.emulator.specs.Outcomes.{ran}
 use Rattle.steps.specs.Step.{runOf}
-use Rattle.fields.specs.Placing.{lineIn, lengthIn}
+use Rattle.line_fields.specs.Placing.{lineIn, lengthIn}
 use Rattle.line.specs.Lines.{lineOf, refusedLine}
 use Rattle.replay_line.specs.Longest.{longestLine}
 use Rattle.replay_line.specs.LongestLaws.{line-whole}

@@ -6,7 +6,7 @@ ghost use Prim.Native.Nat.{_≤_};
 ghost use lib.ListN.{length, take, drop};
 ghost use Rattle.answers.specs.Numbers.{isDone};
 ghost use Rattle.runfile.specs.Files.{readAnswer, readContents};
-ghost use Rattle.fields.specs.Placing.{lineIn, lengthIn};
+ghost use Rattle.line_fields.specs.Placing.{lineIn, lengthIn};
 ghost use Rattle.replay_line.specs.Longest.{longestLine};
 ghost use Rattle.replay_line.specs.Replay.{replayLine};
 ghost use Rattle.replaying.specs.Facts.{FreshSlices};
@@ -16,7 +16,7 @@ use line::run_line;
 use machine::Machine;
 use runfile::reading::head_of;
 use runfile::reading::read_answer;
-use setting_up::set_up;
+use runfile_setting_up::set_up;
 
 const FILE_BYTES: usize = 16401;
 

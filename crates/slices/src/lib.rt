@@ -4,14 +4,14 @@ ghost use Prim.Native.Nat.{min};
 ghost use lib.ListN.{getD, set};
 ghost use lib.Seq.{slice};
 ghost use denote.Ref.{ptr};
-ghost use Rattle.board.specs.Slices.{memoriesFit, portFits, portSpent, slicesFit, partStart, pageStored};
+ghost use Rattle.board.specs.Slices.{memoriesFit, portFits, portSpent, slicesFit, partStart, dataPageStored};
 use machine::Machine;
 
 const MEMORY_WORDS: usize = 4096;
 
 const PORT_WORDS_MAX: usize = 1024;
 
-const PAGE_WORDS: usize = 128;
+const DATA_PAGE_WORDS: usize = 128;
 
 // Each of the two memories is of its size.
 pub fn memories_fit(rom: &[u16], data: &[u16]) -> bool
@@ -97,12 +97,12 @@ pub fn store_at(words: &mut [u16], at: u16, word: u16)
     }
 }
 
-// A direct store: the page part of the data slice is lent on for the write.
-pub fn store_word(data: &mut [u16], page: u16, offset: u16, word: u16)
-    ensures { λ _. ⌜ now («data» .exit) ≡ pageStored (now («data» .entry)) page offset word ⌝ }
+// A direct store: the part of the data slice that is the data page is lent on for the write.
+pub fn store_word(data: &mut [u16], dp: u16, offset: u16, word: u16)
+    ensures { λ _. ⌜ now («data» .exit) ≡ dataPageStored (now («data» .entry)) dp offset word ⌝ }
 {
-    let base = PAGE_WORDS * page as usize;
-    let end = base + PAGE_WORDS;
+    let base = DATA_PAGE_WORDS * dp as usize;
+    let end = base + DATA_PAGE_WORDS;
     if end <= data.len() {
         store_at(&mut data[base..end], offset, word);
     }

@@ -34,7 +34,7 @@ use Rattle.steps.specs.World.{World}
 use Rattle.steps.specs.Table.{decodedAt, secondWord}
 use Rattle.steps.specs.Step.{afterStore, stepOf, runOf, worldAfter}
 use Rattle.steps.specs.TableLaws.{step-world}
-use Rattle.frames.specs.Frames.{Pair, accumulated, passed, Every, Words}
+use Rattle.frame_sums.specs.Frames.{Pair, accumulated, passed, Every, Words}
 use Rattle.stacking.specs.Stacking.{pairFor, pairAt, pairsRead, Repeats, by-rptk, by-rpt, Accumulates, by-mac, by-macd, Sized}
 use Rattle.stacking.specs.Passing.{runs-on, run-goes-on, run-ended, Alike, operand-alike, accumulationOf, followed-follows, again, goes-past, mac-works, move-keeps}
 

@@ -11,9 +11,9 @@ use borrow.Author.Tests.{lt-ltb, le-ltb}
 use Rattle.alu.specs.Registers.{wrappedSum}
 use Rattle.machine.specs.declared.Machine.{Machine}
 use Rattle.answers.specs.Numbers.{isDone}
-use Rattle.dma.specs.declared.Address.the-variants as Mode
-use Rattle.dma.specs.declared.NextArp.{NextArp}
-use Rattle.dma.specs.declared.NextArp.the-variants as Next
+use Rattle.operands.specs.declared.Address.the-variants as Mode
+use Rattle.operands.specs.declared.NextArp.{NextArp}
+use Rattle.operands.specs.declared.NextArp.the-variants as Next
 use Rattle.instructions.specs.declared.Decoded.the-variants.{Nothing}
 use Rattle.pages.specs.declared.Operand.{Operand}
 use Rattle.pages.specs.declared.Operand.the-variants as Operand
@@ -32,7 +32,7 @@ use Rattle.board.specs.WindowLaws.{rom-word, b0-word}
 use Rattle.board.specs.Given.{Given}
 use Rattle.steps.specs.World.{World}
 use Rattle.steps.specs.Step.{stepOf, runOf}
-use Rattle.frames.specs.Frames.{Accumulation, productAdded, accumulated}
+use Rattle.frame_sums.specs.Frames.{Accumulation, productAdded, accumulated}
 
 -- ---- a run that is not refused, step by step
 pub record RunsOn (g : Given) (n : ℕ) (w : World) : Type 0 where

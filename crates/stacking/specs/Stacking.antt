@@ -10,7 +10,7 @@ use Rattle.alu.specs.Registers.{wrappedSum}
 use Rattle.answers.specs.Numbers.{isDone}
 use Rattle.instructions.specs.declared.Instruction.{Instruction}
 use Rattle.instructions.specs.declared.Instruction.the-variants as Family
-use Rattle.dma.specs.declared.Address.{Address}
+use Rattle.operands.specs.declared.Address.{Address}
 use Rattle.instructions.specs.declared.Modes.the-variants.{Rpt, Rptk}
 use Rattle.instructions.specs.declared.Multiplier.the-variants.{Mac, Macd, Apac}
 use Rattle.instructions.specs.declared.Decoded.{Decoded}
@@ -25,7 +25,7 @@ use Rattle.steps.specs.Pass.{wordsRead}
 use Rattle.steps.specs.World.{World}
 use Rattle.steps.specs.Table.{decodedAt, secondWord}
 use Rattle.steps.specs.Step.{stepOf, runOf}
-use Rattle.frames.specs.Frames.{Pair, Near, exactSum, AllLeast}
+use Rattle.frame_sums.specs.Frames.{Pair, Near, exactSum, AllLeast}
 
 -- ---- the words that the passes read, taken from the run itself
 

@@ -12,7 +12,7 @@ use Rattle.machine.specs.Reset.{resetMachine}
 use Rattle.answers.specs.Numbers.{numberOf}
 use Rattle.steps.specs.World.{World, RunOutcome}
 use Rattle.steps.specs.Step.{runOf}
-use Rattle.frames.specs.Frames.{exactSum}
+use Rattle.frame_sums.specs.Frames.{exactSum}
 use Rattle.stacking.specs.Stacking.{words}
 use Rattle.board.specs.Given.{given}
 

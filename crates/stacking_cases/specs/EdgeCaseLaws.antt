@@ -34,13 +34,13 @@ use Rattle.steps.specs.Pass.{readWord, wordsRead, effectOf, passedMachine, pass
 use Rattle.steps.specs.Table.{checksOf, decodedAt, secondAddress, secondWord, notRepeatable, secondAbsent, tableFor, checkRows, fetchRows, encodingRows, instructionRows, repeatRows}
 use Rattle.steps.specs.Step.{pagePlan, planOf, afterStore, stepOf, runOf}
 use Rattle.instructions.specs.declared.Instruction.the-variants as Family
-use Rattle.dma.specs.declared.Address.{Address}
-use Rattle.dma.specs.declared.Address.the-variants.{Direct, Indirect}
-use Rattle.dma.specs.declared.Modification.the-variants.{Plus}
-use Rattle.dma.specs.declared.NextArp.the-variants.{Same}
+use Rattle.operands.specs.declared.Address.{Address}
+use Rattle.operands.specs.declared.Address.the-variants.{Direct, Indirect}
+use Rattle.operands.specs.declared.Modification.the-variants.{Plus}
+use Rattle.operands.specs.declared.NextArp.the-variants.{Same}
 use Rattle.instructions.specs.declared.Modes.the-variants.{Rpt}
 use Rattle.instructions.specs.declared.Multiplier.the-variants.{Macd}
-use Rattle.frames.specs.Frames.{exactSum}
+use Rattle.frame_sums.specs.Frames.{exactSum}
 use Rattle.stacking.specs.Stacking.{pairFor, pairAt, pairsRead, wordAhead, words, by-rpt, by-macd, Stacks, Holds}
 use Rattle.stacking.specs.Demand.{demand}
 use Rattle.stacking_cases.specs.EdgeCase.{edgeRom, edgeData, edgeMachine, edgeWorld, edgeRun, EdgeCase}

@@ -16,7 +16,7 @@ use Rattle.board.specs.Windows.{windowOf, programWord}
 use Rattle.board.specs.Given.{Given, given}
 use Rattle.steps.specs.Table.{decodedAt}
 use Rattle.instructions.specs.declared.Instruction.the-variants as Family
-use Rattle.dma.specs.declared.Address.the-variants.{Direct}
+use Rattle.operands.specs.declared.Address.the-variants.{Direct}
 use Rattle.instructions.specs.declared.Modes.the-variants.{Rptk}
 use Rattle.instructions.specs.declared.Multiplier.the-variants.{Mac}
 use Rattle.steps.specs.World.{World}

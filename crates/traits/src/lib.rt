@@ -1,6 +1,4 @@
 // What each page says of its instruction besides its rule.
-use dma::Address;
-use dma::Indirect;
 use instructions::Accumulator;
 use instructions::Auxiliary;
 use instructions::Branches;
@@ -8,6 +6,8 @@ use instructions::Instruction;
 use instructions::Modes;
 use instructions::Multiplier;
 use instructions::Transfers;
+use operands::Address;
+use operands::Indirect;
 use pages::Access;
 use pages::Operand;
 use pages::Port;

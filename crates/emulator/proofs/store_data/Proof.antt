@@ -4,8 +4,8 @@ use borrow.Author.Needs.{needs}
 use Rattle.emulator.proofs.store_data.Statement.{statement}
 use Rattle.emulator.proofs.store_data.Tie as tie
 
-cast-page : tie.Need-cast-page
-cast-page c = search needs
+cast-dp : tie.Need-cast-dp
+cast-dp c = search needs
 
 cast-offset : tie.Need-cast-offset
 cast-offset c = search needs
@@ -21,4 +21,4 @@ returns c = c .before .before .store-word .ensures ∙ address-set _ _ _ (c .bef
 
 pub store-data-spec : {M : Type 1} → statement M
 store-data-spec =
-    tie.close (tie.spec cast-page cast-offset store-word-requires same-length returns)
+    tie.close (tie.spec cast-dp cast-offset store-word-requires same-length returns)

@@ -40,22 +40,22 @@ use denote.Triple.Clauses.{ensured, lasts}
 use denote.Triple.Table.{entered, cited}
 use denote.Triple.Walked.{says, Stays, stay-none, walkOf, AllGo, goes-none, Walks, ends-at, walked, walk-meets}
 use denote.Exit.{yes}
-use Rattle.stack.specs.Stack.{popOf, topOf}
+use Rattle.hardware_stack.specs.Stack.{popOf, topOf}
 use Rattle.machine.specs.Cells.{withStack}
-use Rattle.stack.specs.declared.Stack.{Stack}
+use Rattle.hardware_stack.specs.declared.Stack.{Stack}
 use Rattle.machine.specs.declared.Machine.{Machine}
 use Rattle.machine.specs.declared.AfterPop.{AfterPop}
 use Rattle.machine.proofs.AfterPop as K
 use Rattle.machine.proofs.AfterPop.Laws as K′
 use Rattle.machine.proofs.StackPlace.{vals, stackVals, mach, d, lay, made, stack-was}
-use Rattle.stack.proofs.Stack as S
-use Rattle.stack.proofs.Stack.Laws as S′
+use Rattle.hardware_stack.proofs.Stack as S
+use Rattle.hardware_stack.proofs.Stack.Laws as S′
 use Rattle.machine.proofs.Machine as T
 use Rattle.machine.proofs.Machine.Laws as T′
-use Rattle.stack.proofs.pop as pop
-use Rattle.stack.proofs.pop.Symbol as pop-def
-use Rattle.stack.proofs.pop.Symbol.{name as #stack·pop}
-use Rattle.stack.proofs.pop.Met as pop-thm
+use Rattle.hardware_stack.proofs.pop as pop
+use Rattle.hardware_stack.proofs.pop.Symbol as pop-def
+use Rattle.hardware_stack.proofs.pop.Symbol.{name as #stack·pop}
+use Rattle.hardware_stack.proofs.pop.Met as pop-thm
 use Rattle.machine.proofs.pop_on.Key.{name as #machine·pop-on}
 use Rattle.machine.proofs.pop_on as pop-on
 use Rattle.machine.proofs.pop_on.Statement as stated

@@ -40,19 +40,19 @@ use denote.Triple.Clauses.{ensured, lasts}
 use denote.Triple.Table.{entered, cited}
 use denote.Triple.Walked.{says, Stays, stay-none, walkOf, AllGo, goes-none, Walks, ends-at, walked, walk-meets}
 use denote.Exit.{yes}
-use Rattle.stack.specs.Stack.{pushOf}
+use Rattle.hardware_stack.specs.Stack.{pushOf}
 use Rattle.machine.specs.Cells.{withStack}
-use Rattle.stack.specs.declared.Stack.{Stack}
+use Rattle.hardware_stack.specs.declared.Stack.{Stack}
 use Rattle.machine.specs.declared.Machine.{Machine}
 use Rattle.machine.proofs.StackPlace.{vals, stackVals, mach, d, lay, made, stack-was}
-use Rattle.stack.proofs.Stack as S
-use Rattle.stack.proofs.Stack.Laws as S′
+use Rattle.hardware_stack.proofs.Stack as S
+use Rattle.hardware_stack.proofs.Stack.Laws as S′
 use Rattle.machine.proofs.Machine as T
 use Rattle.machine.proofs.Machine.Laws as T′
-use Rattle.stack.proofs.push as push
-use Rattle.stack.proofs.push.Symbol as push-def
-use Rattle.stack.proofs.push.Symbol.{name as #stack·push}
-use Rattle.stack.proofs.push.Met as push-thm
+use Rattle.hardware_stack.proofs.push as push
+use Rattle.hardware_stack.proofs.push.Symbol as push-def
+use Rattle.hardware_stack.proofs.push.Symbol.{name as #stack·push}
+use Rattle.hardware_stack.proofs.push.Met as push-thm
 use Rattle.machine.proofs.push_on.Key.{name as #machine·push-on}
 use Rattle.machine.proofs.push_on as push-on
 use Rattle.machine.proofs.push_on.Statement as stated

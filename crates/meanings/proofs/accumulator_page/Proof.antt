@@ -1,6 +1,6 @@
 use mathlib.Core.Path.{ap, sym, refl}
 use Prim.Native.Nat.{ℕ, _/_, _%_}
-use Rattle.dma.specs.declared.Address.{Address}
+use Rattle.operands.specs.declared.Address.{Address}
 use Rattle.instructions.specs.declared.Accumulator.the-variants.{Add, Sub, Lac, Addh, Adds, Subh, Subs, Subc, Zalh, Zals, And, Or, Xor, Sacl, Sach, Lack, Addk, Subk}
 use Rattle.instructions.specs.Encoding.{accumulator}
 use Rattle.instructions.specs.Places.{page-means}

@@ -1,6 +1,6 @@
 use mathlib.Core.Path.{ap, sym}
 use Prim.Native.Nat.{ℕ, _/_, _%_}
-use Rattle.dma.specs.declared.Address.{Address}
+use Rattle.operands.specs.declared.Address.{Address}
 use Rattle.instructions.specs.declared.Auxiliary.the-variants.{Lar, Sar, Mar, Ldp, Lark, Adrk, Sbrk, Ldpk}
 use Rattle.instructions.specs.Encoding.{auxiliary}
 use Rattle.instructions.specs.Places.{page-means}

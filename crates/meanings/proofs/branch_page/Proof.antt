@@ -1,5 +1,5 @@
 use mathlib.Core.Path.{ap, refl}
-use Rattle.dma.specs.declared.Indirect.{Indirect}
+use Rattle.operands.specs.declared.Indirect.{Indirect}
 use Rattle.instructions.specs.declared.Branches.the-variants.{B, Banz, Bz, Bnz, Bgz, Bgez, Blz, Blez, Bv, Bnv, Call}
 use Rattle.instructions.specs.Encoding.{branches}
 use Rattle.instructions.specs.Places.{page-means}

@@ -1,6 +1,6 @@
 use mathlib.Core.Path.{ap, sym, refl}
 use Prim.Native.Nat.{ℕ, _%_}
-use Rattle.dma.specs.declared.Address.{Address}
+use Rattle.operands.specs.declared.Address.{Address}
 use Rattle.instructions.specs.declared.Modes.the-variants.{Rpt, Rptk}
 use Rattle.instructions.specs.Encoding.{modes}
 use Rattle.instructions.specs.Places.{page-means}

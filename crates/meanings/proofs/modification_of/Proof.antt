@@ -1,5 +1,5 @@
 use Rattle.instructions.specs.Encoding.{modificationOf, modifications}
-use Rattle.dma.specs.declared.Modification.the-variants.{None}
+use Rattle.operands.specs.declared.Modification.the-variants.{None}
 use Rattle.meanings.proofs.Rest.{find-rest}
 use mathlib.Core.Path.{sym}
 use Rattle.meanings.proofs.modification_of.Statement.{statement}

@@ -1,6 +1,6 @@
 use mathlib.Core.Path.{ap, sym, refl}
 use Prim.Native.Nat.{ℕ, _%_}
-use Rattle.dma.specs.declared.Address.{Address}
+use Rattle.operands.specs.declared.Address.{Address}
 use Rattle.instructions.specs.declared.Multiplier.the-variants.{Lt, Lta, Ltp, Ltd, Lts, Mpy, Mpya, Mpys, Sqra, Sqrs, Mac, Macd, Spl, Sph, Mpyk, Spm}
 use Rattle.instructions.specs.Encoding.{multiplier}
 use Rattle.instructions.specs.Places.{page-means}

@@ -1,6 +1,6 @@
 use Prim.Native.Nat.{_/_, _%_}
 use mathlib.Core.Path.{ap}
-use Rattle.dma.specs.declared.Address.{Address}
+use Rattle.operands.specs.declared.Address.{Address}
 use Rattle.instructions.specs.declared.Transfers.the-variants.{Dmov, In, Out}
 use Rattle.instructions.specs.Encoding.{transfers}
 use Rattle.instructions.specs.Places.{page-means}

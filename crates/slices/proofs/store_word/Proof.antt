@@ -1,6 +1,6 @@
 use mathlib.Core.Path.{sym}
 use native.Mathlib.Omega.{arith}
-use Rattle.board.specs.SliceLaws.{page-put, page-missing}
+use Rattle.board.specs.SliceLaws.{data-page-put, data-page-missing}
 use borrow.Author.Needs.{needs}
 use Rattle.slices.proofs.store_word.Statement.{statement}
 use Rattle.slices.proofs.store_word.Tie as tie
@@ -30,10 +30,10 @@ same-length : tie.Need-same-length
 same-length c = search needs
 
 returns : tie.Need-returns
-returns c = rw (c .before .before .store-at .ensures) (sym (page-put _ _ _ _ (omega arith)))
+returns c = rw (c .before .before .store-at .ensures) (sym (data-page-put _ _ _ _ (omega arith)))
 
 returns-2 : tie.Need-returns-2
-returns-2 c = sym (page-missing _ _ _ _ (omega arith))
+returns-2 c = sym (data-page-missing _ _ _ _ (omega arith))
 
 pub store-word-spec : {M : Type 1} → statement M
 store-word-spec =

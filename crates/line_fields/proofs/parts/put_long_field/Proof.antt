@@ -1,0 +1,22 @@
+use Rattle.line_fields.specs.PlacingLaws.{put-then, room-first, room-then}
+use Rattle.line_digits.specs.DigitLaws.{eight-digits}
+use Rattle.line_digits.specs.Digits.{hexadecimal}
+use borrow.Author.Needs.{needs}
+use Rattle.line_fields.proofs.parts.put_long_field.Statement.{statement}
+use Rattle.line_fields.proofs.parts.put_long_field.Tie as tie
+
+put-word-field-requires : tie.Need-put-word-field-requires
+put-word-field-requires c κs = room-first _ (hexadecimal 4 (c .before .before .args .n)) (rw eight-digits at (c .before .before .pre))
+
+put-four-requires : tie.Need-put-four-requires
+put-four-requires c κs = room-then (c .before .before .before .put-word-field .ensures) _ (rw eight-digits at (c .before .before .before .before .before .before .pre))
+
+same-length : tie.Need-same-length
+same-length c = search needs
+
+returns : tie.Need-returns
+returns c = rw eight-digits (put-then (c .before .before .before .before .before .before .put-word-field .ensures) (c .before .before .put-four .ensures))
+
+pub put-long-field-spec : {M : Type 1} → statement M
+put-long-field-spec =
+    tie.close (tie.spec put-word-field-requires put-four-requires same-length returns)

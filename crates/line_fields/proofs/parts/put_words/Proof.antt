@@ -1,0 +1,60 @@
+use Rattle.line_fields.specs.PlacingLaws.{words-none, words-more, words-all, words-room, put-length}
+use Rattle.line_fields.specs.Facts.{WordsPut}
+use borrow.Author.Needs.{needs}
+use Prim.Native.Nat.{_-_}
+use lib.ListN.{length}
+use Rattle.line_fields.proofs.parts.put_words.Statement.{statement}
+use Rattle.line_fields.proofs.parts.put_words.Tie as tie
+
+abbrev Inv-loop : tie.InvT-loop
+Inv-loop bytes₀ at words next₀ k₀ bytes next k = WordsPut words bytes₀ at k bytes next
+
+abbrev μ-loop : tie.MeasureT-loop
+μ-loop bytes₀ at words next₀ k₀ bytes next k = length words - k
+
+loop-holds : tie.Need-loop-holds Inv-loop μ-loop
+loop-holds c = words-none _ _ _
+
+mul-wide : tie.Need-mul-wide Inv-loop μ-loop
+mul-wide c = search needs
+
+shared-slice-read-wide : tie.Need-shared-slice-read-wide Inv-loop μ-loop
+shared-slice-read-wide c = search needs
+
+wide-requires : tie.Need-wide-requires Inv-loop μ-loop
+wide-requires c κs = search needs
+
+put-word-field-requires : tie.Need-put-word-field-requires Inv-loop μ-loop
+put-word-field-requires c κs = rw (c .wide .ensures) (words-room (c .before .before .before .before .loop .inv) (c .before .before .before .before .before .before .before .pre) (c .before .before .before .loop-test .taken))
+
+add-k : tie.Need-add-k Inv-loop μ-loop
+add-k c = search needs
+
+loop-less : tie.Need-loop-less Inv-loop μ-loop
+loop-less c = search needs
+
+loop-again : tie.Need-loop-again Inv-loop μ-loop
+loop-again c = words-more (c .before .before .before .before .before .before .before .loop .inv) (c .before .before .before .before .before .before .loop-test .taken) (rw (c .before .before .before .wide .ensures) at (c .before .before .put-word-field .ensures))
+
+same-length : tie.Need-same-length Inv-loop μ-loop
+same-length c = put-length (c .before .loop .inv .so-far)
+
+returns : tie.Need-returns Inv-loop μ-loop
+returns c = words-all (c .before .loop .inv) (c .loop-test .left)
+
+pub put-words-spec : {M : Type 1} → statement M
+put-words-spec =
+    tie.close
+    (tie.spec
+    Inv-loop
+    μ-loop
+    loop-holds
+    mul-wide
+    shared-slice-read-wide
+    wide-requires
+    put-word-field-requires
+    add-k
+    loop-less
+    loop-again
+    same-length
+    returns)
