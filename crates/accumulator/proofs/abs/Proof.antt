@@ -3,15 +3,14 @@ use borrow.Author.Needs.{needs}
 use Rattle.accumulator.proofs.abs.Statement.{statement}
 use Rattle.accumulator.proofs.abs.Tie as tie
 
-absolute-value-requires : tie.Need-absolute-value-requires
-absolute-value-requires c κs = search needs
-
-with-sum-requires : tie.Need-with-sum-requires
-with-sum-requires c κs = search needs
-
 returns : tie.Need-returns
 unfolding ABS
 returns c = rw (c .with-sum .ensures, c .before .absolute-value .ensures)
 
 pub abs-spec : {M : Type 1} → statement M
-abs-spec = tie.close (tie.spec absolute-value-requires with-sum-requires returns)
+abs-spec =
+    tie.close
+    (tie.spec
+    (λ c κs. search needs)
+    (λ c κs. search needs)
+    returns)

@@ -3,15 +3,14 @@ use borrow.Author.Needs.{needs}
 use Rattle.accumulator.proofs.addh.Statement.{statement}
 use Rattle.accumulator.proofs.addh.Tie as tie
 
-add-high-requires : tie.Need-add-high-requires
-add-high-requires c κs = search needs
-
-with-sum-requires : tie.Need-with-sum-requires
-with-sum-requires c κs = search needs
-
 returns : tie.Need-returns
 unfolding ADDH
 returns c = rw (c .with-sum .ensures, c .before .add-high .ensures)
 
 pub addh-spec : {M : Type 1} → statement M
-addh-spec = tie.close (tie.spec add-high-requires with-sum-requires returns)
+addh-spec =
+    tie.close
+    (tie.spec
+    (λ c κs. search needs)
+    (λ c κs. search needs)
+    returns)

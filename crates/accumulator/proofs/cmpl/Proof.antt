@@ -3,15 +3,14 @@ use borrow.Author.Needs.{needs}
 use Rattle.accumulator.proofs.cmpl.Statement.{statement}
 use Rattle.accumulator.proofs.cmpl.Tie as tie
 
-complement-requires : tie.Need-complement-requires
-complement-requires c κs = search needs
-
-with-acc-requires : tie.Need-with-acc-requires
-with-acc-requires c κs = search needs
-
 returns : tie.Need-returns
 unfolding CMPL
 returns c = rw (c .with-acc .ensures, c .before .complement .ensures)
 
 pub cmpl-spec : {M : Type 1} → statement M
-cmpl-spec = tie.close (tie.spec complement-requires with-acc-requires returns)
+cmpl-spec =
+    tie.close
+    (tie.spec
+    (λ c κs. search needs)
+    (λ c κs. search needs)
+    returns)

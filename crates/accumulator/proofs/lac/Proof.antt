@@ -3,15 +3,14 @@ use borrow.Author.Needs.{needs}
 use Rattle.accumulator.proofs.lac.Statement.{statement}
 use Rattle.accumulator.proofs.lac.Tie as tie
 
-operand-of-requires : tie.Need-operand-of-requires
-operand-of-requires c κs = search needs
-
-with-acc-requires : tie.Need-with-acc-requires
-with-acc-requires c κs = search needs
-
 returns : tie.Need-returns
 unfolding LAC
 returns c = rw (c .with-acc .ensures, c .before .operand-of .ensures)
 
 pub lac-spec : {M : Type 1} → statement M
-lac-spec = tie.close (tie.spec operand-of-requires with-acc-requires returns)
+lac-spec =
+    tie.close
+    (tie.spec
+    (λ c κs. search needs)
+    (λ c κs. search needs)
+    returns)

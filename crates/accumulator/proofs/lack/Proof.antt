@@ -3,12 +3,13 @@ use borrow.Author.Needs.{needs}
 use Rattle.accumulator.proofs.lack.Statement.{statement}
 use Rattle.accumulator.proofs.lack.Tie as tie
 
-with-acc-requires : tie.Need-with-acc-requires
-with-acc-requires c κs = search needs
-
 returns : tie.Need-returns
 unfolding LACK
 returns c = rw (c .with-acc .ensures)
 
 pub lack-spec : {M : Type 1} → statement M
-lack-spec = tie.close (tie.spec with-acc-requires returns)
+lack-spec =
+    tie.close
+    (tie.spec
+    (λ c κs. search needs)
+    returns)

@@ -3,12 +3,13 @@ use borrow.Author.Needs.{needs}
 use Rattle.accumulator.proofs.sach.Statement.{statement}
 use Rattle.accumulator.proofs.sach.Tie as tie
 
-stored-high-requires : tie.Need-stored-high-requires
-stored-high-requires c κs = search needs
-
 returns : tie.Need-returns
 unfolding SACH
 returns c = rw (c .stored-high .ensures)
 
 pub sach-spec : {M : Type 1} → statement M
-sach-spec = tie.close (tie.spec stored-high-requires returns)
+sach-spec =
+    tie.close
+    (tie.spec
+    (λ c κs. search needs)
+    returns)

@@ -3,12 +3,13 @@ use borrow.Author.Needs.{needs}
 use Rattle.accumulator.proofs.sacl.Statement.{statement}
 use Rattle.accumulator.proofs.sacl.Tie as tie
 
-stored-low-requires : tie.Need-stored-low-requires
-stored-low-requires c κs = search needs
-
 returns : tie.Need-returns
 unfolding SACL
 returns c = rw (c .stored-low .ensures)
 
 pub sacl-spec : {M : Type 1} → statement M
-sacl-spec = tie.close (tie.spec stored-low-requires returns)
+sacl-spec =
+    tie.close
+    (tie.spec
+    (λ c κs. search needs)
+    returns)

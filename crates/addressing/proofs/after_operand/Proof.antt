@@ -3,21 +3,6 @@ use borrow.Author.Needs.{needs}
 use Rattle.addressing.proofs.after_operand.Statement.{statement}
 use Rattle.addressing.proofs.after_operand.Tie as tie
 
-enum-told : tie.Need-enum-told
-enum-told c = search needs
-
-enum-known-operand : tie.Need-enum-known-operand
-enum-known-operand c = search needs
-
-enum-told-2 : tie.Need-enum-told-2
-enum-told-2 c = search needs
-
-enum-known-address : tie.Need-enum-known-address
-enum-known-address c = search needs
-
-modify-requires : tie.Need-modify-requires
-modify-requires c κs = search needs
-
 returns : tie.Need-returns
 unfolding addressed
 returns c = rw (c .enum-told .given .1)
@@ -34,11 +19,11 @@ pub after-operand-spec : {M : Type 1} → statement M
 after-operand-spec =
     tie.close
     (tie.spec
-    enum-told
-    enum-known-operand
-    enum-told-2
-    enum-known-address
-    modify-requires
+    (λ c. search needs)
+    (λ c. search needs)
+    (λ c. search needs)
+    (λ c. search needs)
+    (λ c κs. search needs)
     returns
     returns-2
     returns-3)

@@ -3,12 +3,6 @@ use borrow.Author.Needs.{needs}
 use Rattle.addressing.proofs.point.Statement.{statement}
 use Rattle.addressing.proofs.point.Tie as tie
 
-enum-told : tie.Need-enum-told
-enum-told c = search needs
-
-enum-known-next : tie.Need-enum-known-next
-enum-known-next c = search needs
-
 returns : tie.Need-returns
 unfolding pointed
 returns c = rw (c .enum-told .given .1)
@@ -18,4 +12,10 @@ unfolding pointed
 returns-2 c = rw (c .before .next .given .1)
 
 pub point-spec : {M : Type 1} → statement M
-point-spec = tie.close (tie.spec enum-told enum-known-next returns returns-2)
+point-spec =
+    tie.close
+    (tie.spec
+    (λ c. search needs)
+    (λ c. search needs)
+    returns
+    returns-2)

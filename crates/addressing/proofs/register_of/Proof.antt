@@ -5,17 +5,14 @@ use borrow.Author.Needs.{needs}
 use Rattle.addressing.proofs.register_of.Statement.{statement}
 use Rattle.addressing.proofs.register_of.Tie as tie
 
-mul-result : tie.Need-mul-result
-mul-result c = search needs
-
-array-read-result : tie.Need-array-read-result
-array-read-result c = search needs
-
-returns : tie.Need-returns
-returns c = search needs
-
 returns-2 : tie.Need-returns-2
 returns-2 c = sym (List·getD-eq-default (c .before .before .args .m .ar) 0 {n = c .before .before .args .i} (let h : length (c .before .before .args .m .ar) ≡ 8 = search needs in omega arith))
 
 pub register-of-spec : {M : Type 1} → statement M
-register-of-spec = tie.close (tie.spec mul-result array-read-result returns returns-2)
+register-of-spec =
+    tie.close
+    (tie.spec
+    (λ c. search needs)
+    (λ c. search needs)
+    (λ c. search needs)
+    returns-2)

@@ -12,4 +12,8 @@ unfolding tableAddress
 returns-2 c = rw (ne-eqb _ _ (c .if1 .left))
 
 pub table-address-spec : {M : Type 1} → statement M
-table-address-spec = tie.close (tie.spec returns returns-2)
+table-address-spec =
+    tie.close
+    (tie.spec
+    returns
+    returns-2)

@@ -3,12 +3,13 @@ use borrow.Author.Needs.{needs}
 use Rattle.auxiliary.proofs.lar.Statement.{statement}
 use Rattle.auxiliary.proofs.lar.Tie as tie
 
-with-register-requires : tie.Need-with-register-requires
-with-register-requires c κs = search needs
-
 returns : tie.Need-returns
 unfolding LAR
 returns c = rw (c .with-register .ensures)
 
 pub lar-spec : {M : Type 1} → statement M
-lar-spec = tie.close (tie.spec with-register-requires returns)
+lar-spec =
+    tie.close
+    (tie.spec
+    (λ c κs. search needs)
+    returns)

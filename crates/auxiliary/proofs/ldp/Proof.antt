@@ -8,4 +8,7 @@ unfolding LDP
 returns c = refl
 
 pub ldp-spec : {M : Type 1} → statement M
-ldp-spec = tie.close (tie.spec returns)
+ldp-spec =
+    tie.close
+    (tie.spec
+    returns)

@@ -8,4 +8,7 @@ unfolding LDPK
 returns c = refl
 
 pub ldpk-spec : {M : Type 1} → statement M
-ldpk-spec = tie.close (tie.spec returns)
+ldpk-spec =
+    tie.close
+    (tie.spec
+    returns)

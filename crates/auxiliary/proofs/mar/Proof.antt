@@ -8,4 +8,7 @@ unfolding MAR
 returns c = refl
 
 pub mar-spec : {M : Type 1} → statement M
-mar-spec = tie.close (tie.spec returns)
+mar-spec =
+    tie.close
+    (tie.spec
+    returns)

@@ -3,12 +3,13 @@ use borrow.Author.Needs.{needs}
 use Rattle.auxiliary.proofs.sar.Statement.{statement}
 use Rattle.auxiliary.proofs.sar.Tie as tie
 
-register-of-requires : tie.Need-register-of-requires
-register-of-requires c κs = search needs
-
 returns : tie.Need-returns
 unfolding SAR
 returns c = rw (c .register-of .ensures)
 
 pub sar-spec : {M : Type 1} → statement M
-sar-spec = tie.close (tie.spec register-of-requires returns)
+sar-spec =
+    tie.close
+    (tie.spec
+    (λ c κs. search needs)
+    returns)

@@ -5,12 +5,13 @@ use borrow.Author.Needs.{needs}
 use Rattle.branches.proofs.bgez.Statement.{statement}
 use Rattle.branches.proofs.bgez.Tie as tie
 
-branch-requires : tie.Need-branch-requires
-branch-requires c κs = search needs
-
 returns : tie.Need-returns
 unfolding BGEZ
 returns c = rw (c .branch .ensures, ← is-not-negative (c .before .before .args .m .acc) (omega arith))
 
 pub bgez-spec : {M : Type 1} → statement M
-bgez-spec = tie.close (tie.spec branch-requires returns)
+bgez-spec =
+    tie.close
+    (tie.spec
+    (λ c κs. search needs)
+    returns)

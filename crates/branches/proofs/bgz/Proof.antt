@@ -5,12 +5,13 @@ use borrow.Author.Needs.{needs}
 use Rattle.branches.proofs.bgz.Statement.{statement}
 use Rattle.branches.proofs.bgz.Tie as tie
 
-branch-requires : tie.Need-branch-requires
-branch-requires c κs = search needs
-
 returns : tie.Need-returns
 unfolding BGZ
 returns c = rw (c .branch .ensures, ← is-positive (c .before .before .before .args .m .acc) (omega arith))
 
 pub bgz-spec : {M : Type 1} → statement M
-bgz-spec = tie.close (tie.spec branch-requires returns)
+bgz-spec =
+    tie.close
+    (tie.spec
+    (λ c κs. search needs)
+    returns)

@@ -5,12 +5,13 @@ use borrow.Author.Needs.{needs}
 use Rattle.branches.proofs.blez.Statement.{statement}
 use Rattle.branches.proofs.blez.Tie as tie
 
-branch-requires : tie.Need-branch-requires
-branch-requires c κs = search needs
-
 returns : tie.Need-returns
 unfolding BLEZ
 returns c = rw (c .branch .ensures, ← is-not-positive (c .before .before .before .args .m .acc) (omega arith))
 
 pub blez-spec : {M : Type 1} → statement M
-blez-spec = tie.close (tie.spec branch-requires returns)
+blez-spec =
+    tie.close
+    (tie.spec
+    (λ c κs. search needs)
+    returns)

@@ -5,12 +5,13 @@ use borrow.Author.Needs.{needs}
 use Rattle.branches.proofs.blz.Statement.{statement}
 use Rattle.branches.proofs.blz.Tie as tie
 
-branch-requires : tie.Need-branch-requires
-branch-requires c κs = search needs
-
 returns : tie.Need-returns
 unfolding BLZ
 returns c = rw (c .branch .ensures, ← is-negative (c .before .before .args .m .acc) (omega arith))
 
 pub blz-spec : {M : Type 1} → statement M
-blz-spec = tie.close (tie.spec branch-requires returns)
+blz-spec =
+    tie.close
+    (tie.spec
+    (λ c κs. search needs)
+    returns)

@@ -3,12 +3,13 @@ use borrow.Author.Needs.{needs}
 use Rattle.branches.proofs.bnz.Statement.{statement}
 use Rattle.branches.proofs.bnz.Tie as tie
 
-branch-requires : tie.Need-branch-requires
-branch-requires c κs = search needs
-
 returns : tie.Need-returns
 unfolding BNZ
 returns c = rw (c .branch .ensures)
 
 pub bnz-spec : {M : Type 1} → statement M
-bnz-spec = tie.close (tie.spec branch-requires returns)
+bnz-spec =
+    tie.close
+    (tie.spec
+    (λ c κs. search needs)
+    returns)

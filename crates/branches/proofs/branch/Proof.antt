@@ -3,12 +3,6 @@ use borrow.Author.Needs.{needs}
 use Rattle.branches.proofs.branch.Statement.{statement}
 use Rattle.branches.proofs.branch.Tie as tie
 
-jump-to-requires : tie.Need-jump-to-requires
-jump-to-requires c κs = search needs
-
-keep-requires : tie.Need-keep-requires
-keep-requires c κs = search needs
-
 returns : tie.Need-returns
 unfolding branched
 returns c = rw (c .jump-to .ensures, c .before .if1 .taken)
@@ -18,4 +12,10 @@ unfolding branched
 returns-2 c = rw (c .keep .ensures, c .before .if1 .left)
 
 pub branch-spec : {M : Type 1} → statement M
-branch-spec = tie.close (tie.spec jump-to-requires keep-requires returns returns-2)
+branch-spec =
+    tie.close
+    (tie.spec
+    (λ c κs. search needs)
+    (λ c κs. search needs)
+    returns
+    returns-2)

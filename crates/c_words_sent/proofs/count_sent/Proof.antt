@@ -5,29 +5,8 @@ use borrow.Author.Needs.{needs}
 use Rattle.c_words_sent.proofs.count_sent.Statement.{statement}
 use Rattle.c_words_sent.proofs.count_sent.Tie as tie
 
-cells-answer-requires : tie.Need-cells-answer-requires
-cells-answer-requires c κs = search needs
-
-is-done-requires : tie.Need-is-done-requires
-is-done-requires c κs = search needs
-
-number-of-requires : tie.Need-number-of-requires
-number-of-requires c κs = search needs
-
 returns : tie.Need-returns
 returns c = sent-refused (c .before .before .before .before .before .before .args .cells .now) (c .before .before .before .cells-answer .ensures) (told (c .before .before .before .cells-answer .ensures) (c .before .before .is-done .ensures) (not-true _ (c .before .if1 .taken))) (c .number-of .ensures) (c .before .before .before .before .before .before .args .output .now)
-
-machine-of-requires : tie.Need-machine-of-requires
-machine-of-requires c κs = search needs
-
-words-sent-answer-requires : tie.Need-words-sent-answer-requires
-words-sent-answer-requires c κs = search needs
-
-words-sent-requires : tie.Need-words-sent-requires
-words-sent-requires c κs = search needs
-
-number-of-requires-2 : tie.Need-number-of-requires-2
-number-of-requires-2 c κs = search needs
 
 returns-2 : tie.Need-returns-2
 returns-2 c = sent-made _ (told (c .before .before .before .before .before .before .cells-answer .ensures) (c .before .before .before .before .before .is-done .ensures) (not-false _ (c .before .before .before .before .if1 .left))) (c .before .before .before .machine-of .ensures) _ (c .before .words-sent .ensures .0) (c .before .before .words-sent-answer .ensures) (c .number-of2 .ensures)
@@ -36,12 +15,12 @@ pub count-sent-spec : {M : Type 1} → statement M
 count-sent-spec =
     tie.close
     (tie.spec
-    cells-answer-requires
-    is-done-requires
-    number-of-requires
+    (λ c κs. search needs)
+    (λ c κs. search needs)
+    (λ c κs. search needs)
     returns
-    machine-of-requires
-    words-sent-answer-requires
-    words-sent-requires
-    number-of-requires-2
+    (λ c κs. search needs)
+    (λ c κs. search needs)
+    (λ c κs. search needs)
+    (λ c κs. search needs)
     returns-2)

@@ -4,9 +4,6 @@ use borrow.Author.Needs.{needs}
 use Rattle.decoder.proofs.control_of.Statement.{statement}
 use Rattle.decoder.proofs.control_of.Tie as tie
 
-array-read-result : tie.Need-array-read-result
-array-read-result c = search needs
-
 returns : tie.Need-returns
 unfolding controlPlace controls
 returns c = simp (lt-ltb _ _ (c .if1 .taken))
@@ -24,4 +21,11 @@ unfolding controlPlace controls
 returns-4 c = simp (le-ltb _ _ (c .before .before .if1 .left), ne-eqb _ _ (c .before .if2 .left), c .if3 .left)
 
 pub control-of-spec : {M : Type 1} → statement M
-control-of-spec = tie.close (tie.spec array-read-result returns returns-2 returns-3 returns-4)
+control-of-spec =
+    tie.close
+    (tie.spec
+    (λ c. search needs)
+    returns
+    returns-2
+    returns-3
+    returns-4)

@@ -4,20 +4,11 @@ use borrow.Author.Needs.{needs}
 use Rattle.decoder.proofs.group_page.Statement.{statement}
 use Rattle.decoder.proofs.group_page.Tie as tie
 
-control-of-requires : tie.Need-control-of-requires
-control-of-requires c κs = search needs
-
 returns : tie.Need-returns
 returns c = rw (c .before .if1 .taken) (c .control-of .ensures ∙ control-place _ (search needs))
 
-long-of-requires : tie.Need-long-of-requires
-long-of-requires c κs = search needs
-
 returns-2 : tie.Need-returns-2
 returns-2 c = rw (c .before .if2 .taken) (c .long-of .ensures ∙ long-place _ (search needs))
-
-long-of-requires-2 : tie.Need-long-of-requires-2
-long-of-requires-2 c κs = search needs
 
 returns-3 : tie.Need-returns-3
 returns-3 c = rw (group-else _ (c .before .before .if1 .left) (c .before .if2 .left)) (c .long-of2 .ensures ∙ long-place-1 _ (search needs))
@@ -25,4 +16,10 @@ returns-3 c = rw (group-else _ (c .before .before .if1 .left) (c .before .if2 .l
 pub group-page-spec : {M : Type 1} → statement M
 group-page-spec =
     tie.close
-    (tie.spec control-of-requires returns long-of-requires returns-2 long-of-requires-2 returns-3)
+    (tie.spec
+    (λ c κs. search needs)
+    returns
+    (λ c κs. search needs)
+    returns-2
+    (λ c κs. search needs)
+    returns-3)

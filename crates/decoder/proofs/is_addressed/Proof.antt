@@ -47,4 +47,16 @@ unfolding isAddressed
 returns-10 c = says isAddressed false 95 256 (c .before .before .before .before .before .args .kind) tt (c .if9 .left) (search needs) (search needs)
 
 pub is-addressed-spec : {M : Type 1} → statement M
-is-addressed-spec = tie.close (tie.spec returns returns-2 returns-3 returns-4 returns-5 returns-6 returns-7 returns-8 returns-9 returns-10)
+is-addressed-spec =
+    tie.close
+    (tie.spec
+    returns
+    returns-2
+    returns-3
+    returns-4
+    returns-5
+    returns-6
+    returns-7
+    returns-8
+    returns-9
+    returns-10)

@@ -27,4 +27,11 @@ unfolding isBranch
 returns-5 c = says isBranch false 100 256 (c .before .before .before .before .args .kind) tt (c .if4 .left) (search needs) (search needs)
 
 pub is-branch-spec : {M : Type 1} → statement M
-is-branch-spec = tie.close (tie.spec returns returns-2 returns-3 returns-4 returns-5)
+is-branch-spec =
+    tie.close
+    (tie.spec
+    returns
+    returns-2
+    returns-3
+    returns-4
+    returns-5)

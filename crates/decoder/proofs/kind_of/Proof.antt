@@ -4,14 +4,13 @@ use borrow.Author.Needs.{needs}
 use Rattle.decoder.proofs.kind_of.Statement.{statement}
 use Rattle.decoder.proofs.kind_of.Tie as tie
 
-shared-slice-read-result : tie.Need-shared-slice-read-result
-shared-slice-read-result c = search needs
-
-returns : tie.Need-returns
-returns c = search needs
-
 returns-2 : tie.Need-returns-2
 returns-2 c = sym (List·getD-eq-default (c .before .args .kinds .now) 0 (c .if1 .left))
 
 pub kind-of-spec : {M : Type 1} → statement M
-kind-of-spec = tie.close (tie.spec shared-slice-read-result returns returns-2)
+kind-of-spec =
+    tie.close
+    (tie.spec
+    (λ c. search needs)
+    (λ c. search needs)
+    returns-2)

@@ -12,12 +12,15 @@ returns-2 : tie.Need-returns-2
 unfolding longPlace
 returns-2 c = simp (lt-ltb _ _ (c .before .if1 .left), lt-ltb _ _ (c .if2 .taken))
 
-add-result : tie.Need-add-result
-add-result c = search needs
-
 returns-3 : tie.Need-returns-3
 unfolding longPlace
 returns-3 c = simp (lt-ltb _ _ (c .before .if1 .left), le-ltb _ _ (c .if2 .left))
 
 pub long-of-spec : {M : Type 1} → statement M
-long-of-spec = tie.close (tie.spec returns returns-2 add-result returns-3)
+long-of-spec =
+    tie.close
+    (tie.spec
+    returns
+    returns-2
+    (λ c. search needs)
+    returns-3)

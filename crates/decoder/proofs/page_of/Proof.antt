@@ -4,12 +4,6 @@ use borrow.Author.Needs.{needs}
 use Rattle.decoder.proofs.page_of.Statement.{statement}
 use Rattle.decoder.proofs.page_of.Tie as tie
 
-is-addressed-requires : tie.Need-is-addressed-requires
-is-addressed-requires c κs = search needs
-
-is-operand-requires : tie.Need-is-operand-requires
-is-operand-requires c κs = search needs
-
 returns : tie.Need-returns
 unfolding placeOfKind
 returns c = simp (← c .before .before .before .is-addressed .ensures, c .before .before .if1 .taken, ← c .before .is-operand .ensures, c .if2 .taken)
@@ -17,12 +11,6 @@ returns c = simp (← c .before .before .before .is-addressed .ensures, c .befor
 returns-2 : tie.Need-returns-2
 unfolding placeOfKind
 returns-2 c = simp (← c .before .before .before .is-addressed .ensures, c .before .before .if1 .taken, ← c .before .is-operand .ensures, c .if2 .left)
-
-is-branch-requires : tie.Need-is-branch-requires
-is-branch-requires c κs = search needs
-
-is-indirect-requires : tie.Need-is-indirect-requires
-is-indirect-requires c κs = search needs
 
 returns-3 : tie.Need-returns-3
 unfolding placeOfKind
@@ -36,9 +24,6 @@ returns-5 : tie.Need-returns-5
 unfolding placeOfKind
 returns-5 c = simp (← c .before .before .before .before .is-addressed .ensures, c .before .before .before .if1 .left, ← c .before .before .is-branch .ensures, c .before .if3 .left, lt-ltb _ _ (c .if5 .taken))
 
-group-page-requires : tie.Need-group-page-requires
-group-page-requires c κs = search needs
-
 returns-6 : tie.Need-returns-6
 unfolding placeOfKind
 returns-6 c = simp (← c .before .before .before .before .before .is-addressed .ensures, c .before .before .before .before .if1 .left, ← c .before .before .before .is-branch .ensures, c .before .before .if3 .left, le-ltb _ _ (c .before .if5 .left)) (c .group-page .ensures)
@@ -47,14 +32,14 @@ pub page-of-spec : {M : Type 1} → statement M
 page-of-spec =
     tie.close
     (tie.spec
-    is-addressed-requires
-    is-operand-requires
+    (λ c κs. search needs)
+    (λ c κs. search needs)
     returns
     returns-2
-    is-branch-requires
-    is-indirect-requires
+    (λ c κs. search needs)
+    (λ c κs. search needs)
     returns-3
     returns-4
     returns-5
-    group-page-requires
+    (λ c κs. search needs)
     returns-6)

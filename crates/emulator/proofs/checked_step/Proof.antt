@@ -4,9 +4,6 @@ use borrow.Author.Needs.{needs}
 use Rattle.emulator.proofs.checked_step.Statement.{statement}
 use Rattle.emulator.proofs.checked_step.Tie as tie
 
-plan-fetched-requires : tie.Need-plan-fetched-requires
-plan-fetched-requires c κs = search needs
-
 commit-requires : tie.Need-commit-requires
 commit-requires c κs =
     rw (c .before .before .before .plan-fetched .ensures)
@@ -14,12 +11,6 @@ commit-requires c κs =
     (words-fit (c .before .before .before .before .before .before .before .before .before .before .args .rom .now) (λ i. c .before .before .before .before .before .before .before .before .shared-slice-known2 .given i .fits))
     (words-fit (c .before .before .before .before .before .before .before .before .before .before .args .«data» .now) (λ i. c .before .before .before .before .before .before .before .slice-known .given i .fits))
     (c .before .before .before .before .before .before .before .before .before .before .pre .1))
-
-same-length : tie.Need-same-length
-same-length c = search needs
-
-same-length-2 : tie.Need-same-length-2
-same-length-2 c = search needs
 
 returns : tie.Need-returns
 unfolding stepOf afterStore
@@ -36,4 +27,10 @@ returns c =
 
 pub checked-step-spec : {M : Type 1} → statement M
 checked-step-spec =
-    tie.close (tie.spec plan-fetched-requires commit-requires same-length same-length-2 returns)
+    tie.close
+    (tie.spec
+    (λ c κs. search needs)
+    commit-requires
+    (λ c. search needs)
+    (λ c. search needs)
+    returns)

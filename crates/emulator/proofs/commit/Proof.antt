@@ -4,34 +4,16 @@ use borrow.Author.Needs.{needs}
 use Rattle.emulator.proofs.commit.Statement.{statement}
 use Rattle.emulator.proofs.commit.Tie as tie
 
-enum-told : tie.Need-enum-told
-enum-told c = search needs
-
-enum-known-write : tie.Need-enum-known-write
-enum-known-write c = search needs
-
 store-data-requires : tie.Need-store-data-requires
 store-data-requires c κs = rw (c .before .before .write .given .1) at (c .before .before .before .before .before .before .pre)
-
-enum-known-write-2 : tie.Need-enum-known-write-2
-enum-known-write-2 c = search needs
-
-store-at-requires : tie.Need-store-at-requires
-store-at-requires c κs = search needs
 
 returns : tie.Need-returns
 unfolding dataAfter outputAfter
 returns c = rw (c .enum-told .given .1) (refl, refl)
 
-same-length : tie.Need-same-length
-same-length c = search needs
-
 returns-2 : tie.Need-returns-2
 unfolding dataAfter outputAfter
 returns-2 c = rw (c .before .before .before .before .before .write .given .1) (c .before .before .store-data .ensures, refl)
-
-same-length-2 : tie.Need-same-length-2
-same-length-2 c = search needs
 
 returns-3 : tie.Need-returns-3
 unfolding dataAfter outputAfter
@@ -41,13 +23,13 @@ pub commit-spec : {M : Type 1} → statement M
 commit-spec =
     tie.close
     (tie.spec
-    enum-told
-    enum-known-write
+    (λ c. search needs)
+    (λ c. search needs)
     store-data-requires
-    enum-known-write-2
-    store-at-requires
+    (λ c. search needs)
+    (λ c κs. search needs)
     returns
-    same-length
+    (λ c. search needs)
     returns-2
-    same-length-2
+    (λ c. search needs)
     returns-3)

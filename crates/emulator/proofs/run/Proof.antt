@@ -25,9 +25,6 @@ check-requires c κs = tt
 is-done-requires : tie.Need-is-done-requires Inv-loop μ-loop
 is-done-requires c κs = tt
 
-same-length : tie.Need-same-length Inv-loop μ-loop
-same-length c = search needs
-
 returns : tie.Need-returns Inv-loop μ-loop
 returns c =
     rw (c .before .before .check .ensures) (sym (refused-run _ _ _ (sym (ap isDone (c .before .before .check .ensures)) ∙ (sym (c .before .is-done .ensures) ∙ not-true _ (c .if1 .taken)))))
@@ -44,9 +41,6 @@ loop-holds c =
     (words-fit (c .before .before .before .before .before .before .before .before .before .args .«data» .now) (λ i. c .before .before .before .before .before .before .before .slice-known .given i .fits))
     (words-fit (c .before .before .before .before .before .before .before .before .before .args .output .now) (λ i. c .before .before .before .before .before .slice-known2 .given i .fits))
 
-slice-aggregate-checked-step : tie.Need-slice-aggregate-checked-step Inv-loop μ-loop
-slice-aggregate-checked-step c = search needs
-
 checked-step-requires : tie.Need-checked-step-requires Inv-loop μ-loop
 checked-step-requires c κs = (c .before .before .before .before .before .kinds .ensures, going-checks _ _ _ _ _ (c .before .before .before .before .loop .inv))
 
@@ -55,9 +49,6 @@ is-done-requires-2 c κs = tt
 
 add-steps : tie.Need-add-steps Inv-loop μ-loop
 add-steps c = omega (arith, c .before .before .before .before .before .before .before .before .before .before .before .if2 .left, c .before .before .before .before .before .before .before .before .before .before .before .before .before .before .before .before .before .before .before .before .before .before .fits .budget)
-
-loop-less : tie.Need-loop-less Inv-loop μ-loop
-loop-less c = search needs
 
 loop-again : tie.Need-loop-again Inv-loop μ-loop
 loop-again c =
@@ -69,20 +60,8 @@ loop-again c =
     (c .before .before .before .before .before .before .before .checked-step .kept .1 .1 .1 .0)
     (c .before .before .before .before .before .before .before .checked-step .kept .1 .1 .1 .1 .1 .0)
 
-same-length-2 : tie.Need-same-length-2 Inv-loop μ-loop
-same-length-2 c = search needs
-
-same-length-3 : tie.Need-same-length-3 Inv-loop μ-loop
-same-length-3 c = search needs
-
 returns-2 : tie.Need-returns-2 Inv-loop μ-loop
 returns-2 c = going-ends _ _ _ _ _ (c .before .loop .inv) (c .if2 .taken)
-
-same-length-4 : tie.Need-same-length-4 Inv-loop μ-loop
-same-length-4 c = search needs
-
-same-length-5 : tie.Need-same-length-5 Inv-loop μ-loop
-same-length-5 c = search needs
 
 returns-3 : tie.Need-returns-3 Inv-loop μ-loop
 returns-3 c =
@@ -100,19 +79,19 @@ run-spec =
     μ-loop
     check-requires
     is-done-requires
-    same-length
+    (λ c. search needs)
     returns
     kinds-requires
     loop-holds
-    slice-aggregate-checked-step
+    (λ c. search needs)
     checked-step-requires
     is-done-requires-2
     add-steps
-    loop-less
+    (λ c. search needs)
     loop-again
-    same-length-2
-    same-length-3
+    (λ c. search needs)
+    (λ c. search needs)
     returns-2
-    same-length-4
-    same-length-5
+    (λ c. search needs)
+    (λ c. search needs)
     returns-3)

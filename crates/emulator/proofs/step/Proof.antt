@@ -5,15 +5,6 @@ use Rattle.emulator.specs.RunLaws.{words-fit, going-begins, outcomeOf, o
 use Rattle.emulator.proofs.step.Statement.{statement}
 use Rattle.emulator.proofs.step.Tie as tie
 
-run-requires : tie.Need-run-requires
-run-requires c κs = search needs
-
-same-length : tie.Need-same-length
-same-length c = search needs
-
-same-length-2 : tie.Need-same-length-2
-same-length-2 c = search needs
-
 returns : tie.Need-returns
 returns c =
     ap outcomeOf (c .before .before .before .before .before .run .ensures)
@@ -25,4 +16,10 @@ returns c =
     (words-fit (c .before .before .before .before .before .before .before .before .before .before .before .before .args .output .now) (λ i. c .before .before .before .before .before .before .before .before .slice-known2 .given i .fits)) .in-range)
 
 pub step-spec : {M : Type 1} → statement M
-step-spec = tie.close (tie.spec run-requires same-length same-length-2 returns)
+step-spec =
+    tie.close
+    (tie.spec
+    (λ c κs. search needs)
+    (λ c. search needs)
+    (λ c. search needs)
+    returns)

@@ -6,129 +6,6 @@ use borrow.Author.Needs.{needs}
 use Rattle.encoder.proofs.accumulator_word.Statement.{statement}
 use Rattle.encoder.proofs.accumulator_word.Tie as tie
 
-enum-known-x : tie.Need-enum-known-x
-enum-known-x c = search needs
-
-shifted-requires : tie.Need-shifted-requires
-shifted-requires c κs = search needs
-
-enum-known-x-2 : tie.Need-enum-known-x-2
-enum-known-x-2 c = search needs
-
-shifted-requires-2 : tie.Need-shifted-requires-2
-shifted-requires-2 c κs = search needs
-
-enum-known-x-3 : tie.Need-enum-known-x-3
-enum-known-x-3 c = search needs
-
-shifted-requires-3 : tie.Need-shifted-requires-3
-shifted-requires-3 c κs = search needs
-
-enum-known-x-4 : tie.Need-enum-known-x-4
-enum-known-x-4 c = search needs
-
-addressed-requires : tie.Need-addressed-requires
-addressed-requires c κs = search needs
-
-enum-known-x-5 : tie.Need-enum-known-x-5
-enum-known-x-5 c = search needs
-
-addressed-requires-2 : tie.Need-addressed-requires-2
-addressed-requires-2 c κs = search needs
-
-enum-known-x-6 : tie.Need-enum-known-x-6
-enum-known-x-6 c = search needs
-
-addressed-requires-3 : tie.Need-addressed-requires-3
-addressed-requires-3 c κs = search needs
-
-enum-known-x-7 : tie.Need-enum-known-x-7
-enum-known-x-7 c = search needs
-
-addressed-requires-4 : tie.Need-addressed-requires-4
-addressed-requires-4 c κs = search needs
-
-enum-known-x-8 : tie.Need-enum-known-x-8
-enum-known-x-8 c = search needs
-
-addressed-requires-5 : tie.Need-addressed-requires-5
-addressed-requires-5 c κs = search needs
-
-enum-known-x-9 : tie.Need-enum-known-x-9
-enum-known-x-9 c = search needs
-
-addressed-requires-6 : tie.Need-addressed-requires-6
-addressed-requires-6 c κs = search needs
-
-enum-known-x-10 : tie.Need-enum-known-x-10
-enum-known-x-10 c = search needs
-
-addressed-requires-7 : tie.Need-addressed-requires-7
-addressed-requires-7 c κs = search needs
-
-enum-known-x-11 : tie.Need-enum-known-x-11
-enum-known-x-11 c = search needs
-
-addressed-requires-8 : tie.Need-addressed-requires-8
-addressed-requires-8 c κs = search needs
-
-enum-known-x-12 : tie.Need-enum-known-x-12
-enum-known-x-12 c = search needs
-
-addressed-requires-9 : tie.Need-addressed-requires-9
-addressed-requires-9 c κs = search needs
-
-enum-known-x-13 : tie.Need-enum-known-x-13
-enum-known-x-13 c = search needs
-
-addressed-requires-10 : tie.Need-addressed-requires-10
-addressed-requires-10 c κs = search needs
-
-enum-known-x-14 : tie.Need-enum-known-x-14
-enum-known-x-14 c = search needs
-
-selected-requires : tie.Need-selected-requires
-selected-requires c κs = search needs
-
-enum-known-x-15 : tie.Need-enum-known-x-15
-enum-known-x-15 c = search needs
-
-selected-requires-2 : tie.Need-selected-requires-2
-selected-requires-2 c κs = search needs
-
-enum-known-x-16 : tie.Need-enum-known-x-16
-enum-known-x-16 c = search needs
-
-constant-requires : tie.Need-constant-requires
-constant-requires c κs = search needs
-
-enum-known-x-17 : tie.Need-enum-known-x-17
-enum-known-x-17 c = search needs
-
-constant-requires-2 : tie.Need-constant-requires-2
-constant-requires-2 c κs = search needs
-
-enum-known-x-18 : tie.Need-enum-known-x-18
-enum-known-x-18 c = search needs
-
-constant-requires-3 : tie.Need-constant-requires-3
-constant-requires-3 c κs = search needs
-
-enum-told : tie.Need-enum-told
-enum-told c = search needs
-
-enum-told-2 : tie.Need-enum-told-2
-enum-told-2 c = search needs
-
-enum-told-3 : tie.Need-enum-told-3
-enum-told-3 c = search needs
-
-enum-told-4 : tie.Need-enum-told-4
-enum-told-4 c = search needs
-
-enum-told-5 : tie.Need-enum-told-5
-enum-told-5 c = search needs
-
 returns : tie.Need-returns
 unfolding wordOf accumulatorFields
 returns c = by-case (λ y. wordOf (accumulatorFields y)) (c .before .before .x .given .1) (of-shifted 0 _ _ (c .shifted .ensures))
@@ -225,47 +102,47 @@ pub accumulator-word-spec : {M : Type 1} → statement M
 accumulator-word-spec =
     tie.close
     (tie.spec
-    enum-known-x
-    shifted-requires
-    enum-known-x-2
-    shifted-requires-2
-    enum-known-x-3
-    shifted-requires-3
-    enum-known-x-4
-    addressed-requires
-    enum-known-x-5
-    addressed-requires-2
-    enum-known-x-6
-    addressed-requires-3
-    enum-known-x-7
-    addressed-requires-4
-    enum-known-x-8
-    addressed-requires-5
-    enum-known-x-9
-    addressed-requires-6
-    enum-known-x-10
-    addressed-requires-7
-    enum-known-x-11
-    addressed-requires-8
-    enum-known-x-12
-    addressed-requires-9
-    enum-known-x-13
-    addressed-requires-10
-    enum-known-x-14
-    selected-requires
-    enum-known-x-15
-    selected-requires-2
-    enum-known-x-16
-    constant-requires
-    enum-known-x-17
-    constant-requires-2
-    enum-known-x-18
-    constant-requires-3
-    enum-told
-    enum-told-2
-    enum-told-3
-    enum-told-4
-    enum-told-5
+    (λ c. search needs)
+    (λ c κs. search needs)
+    (λ c. search needs)
+    (λ c κs. search needs)
+    (λ c. search needs)
+    (λ c κs. search needs)
+    (λ c. search needs)
+    (λ c κs. search needs)
+    (λ c. search needs)
+    (λ c κs. search needs)
+    (λ c. search needs)
+    (λ c κs. search needs)
+    (λ c. search needs)
+    (λ c κs. search needs)
+    (λ c. search needs)
+    (λ c κs. search needs)
+    (λ c. search needs)
+    (λ c κs. search needs)
+    (λ c. search needs)
+    (λ c κs. search needs)
+    (λ c. search needs)
+    (λ c κs. search needs)
+    (λ c. search needs)
+    (λ c κs. search needs)
+    (λ c. search needs)
+    (λ c κs. search needs)
+    (λ c. search needs)
+    (λ c κs. search needs)
+    (λ c. search needs)
+    (λ c κs. search needs)
+    (λ c. search needs)
+    (λ c κs. search needs)
+    (λ c. search needs)
+    (λ c κs. search needs)
+    (λ c. search needs)
+    (λ c κs. search needs)
+    (λ c. search needs)
+    (λ c. search needs)
+    (λ c. search needs)
+    (λ c. search needs)
+    (λ c. search needs)
     returns
     returns-2
     returns-3

@@ -6,57 +6,6 @@ use borrow.Author.Needs.{needs}
 use Rattle.encoder.proofs.auxiliary_word.Statement.{statement}
 use Rattle.encoder.proofs.auxiliary_word.Tie as tie
 
-enum-known-x : tie.Need-enum-known-x
-enum-known-x c = search needs
-
-selected-requires : tie.Need-selected-requires
-selected-requires c κs = search needs
-
-enum-known-x-2 : tie.Need-enum-known-x-2
-enum-known-x-2 c = search needs
-
-selected-requires-2 : tie.Need-selected-requires-2
-selected-requires-2 c κs = search needs
-
-enum-known-x-3 : tie.Need-enum-known-x-3
-enum-known-x-3 c = search needs
-
-add-constant : tie.Need-add-constant
-add-constant c = search needs
-
-constant-requires : tie.Need-constant-requires
-constant-requires c κs = search needs
-
-enum-known-x-4 : tie.Need-enum-known-x-4
-enum-known-x-4 c = search needs
-
-addressed-requires : tie.Need-addressed-requires
-addressed-requires c κs = search needs
-
-enum-known-x-5 : tie.Need-enum-known-x-5
-enum-known-x-5 c = search needs
-
-constant-requires-2 : tie.Need-constant-requires-2
-constant-requires-2 c κs = search needs
-
-enum-known-x-6 : tie.Need-enum-known-x-6
-enum-known-x-6 c = search needs
-
-constant-requires-3 : tie.Need-constant-requires-3
-constant-requires-3 c κs = search needs
-
-enum-known-x-7 : tie.Need-enum-known-x-7
-enum-known-x-7 c = search needs
-
-addressed-requires-2 : tie.Need-addressed-requires-2
-addressed-requires-2 c κs = search needs
-
-enum-known-x-8 : tie.Need-enum-known-x-8
-enum-known-x-8 c = search needs
-
-add-result : tie.Need-add-result
-add-result c = search needs
-
 returns : tie.Need-returns
 unfolding wordOf auxiliaryFields
 returns c = by-case (λ y. wordOf (auxiliaryFields y)) (c .before .before .x .given .1) (of-selected 6 _ _ (c .selected .ensures))
@@ -93,23 +42,23 @@ pub auxiliary-word-spec : {M : Type 1} → statement M
 auxiliary-word-spec =
     tie.close
     (tie.spec
-    enum-known-x
-    selected-requires
-    enum-known-x-2
-    selected-requires-2
-    enum-known-x-3
-    add-constant
-    constant-requires
-    enum-known-x-4
-    addressed-requires
-    enum-known-x-5
-    constant-requires-2
-    enum-known-x-6
-    constant-requires-3
-    enum-known-x-7
-    addressed-requires-2
-    enum-known-x-8
-    add-result
+    (λ c. search needs)
+    (λ c κs. search needs)
+    (λ c. search needs)
+    (λ c κs. search needs)
+    (λ c. search needs)
+    (λ c. search needs)
+    (λ c κs. search needs)
+    (λ c. search needs)
+    (λ c κs. search needs)
+    (λ c. search needs)
+    (λ c κs. search needs)
+    (λ c. search needs)
+    (λ c κs. search needs)
+    (λ c. search needs)
+    (λ c κs. search needs)
+    (λ c. search needs)
+    (λ c. search needs)
     returns
     returns-2
     returns-3

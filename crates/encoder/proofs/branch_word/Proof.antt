@@ -6,75 +6,6 @@ use borrow.Author.Needs.{needs}
 use Rattle.encoder.proofs.branch_word.Statement.{statement}
 use Rattle.encoder.proofs.branch_word.Tie as tie
 
-enum-known-x : tie.Need-enum-known-x
-enum-known-x c = search needs
-
-branching-requires : tie.Need-branching-requires
-branching-requires c κs = search needs
-
-enum-known-x-2 : tie.Need-enum-known-x-2
-enum-known-x-2 c = search needs
-
-branching-requires-2 : tie.Need-branching-requires-2
-branching-requires-2 c κs = search needs
-
-enum-known-x-3 : tie.Need-enum-known-x-3
-enum-known-x-3 c = search needs
-
-branching-requires-3 : tie.Need-branching-requires-3
-branching-requires-3 c κs = search needs
-
-enum-known-x-4 : tie.Need-enum-known-x-4
-enum-known-x-4 c = search needs
-
-branching-requires-4 : tie.Need-branching-requires-4
-branching-requires-4 c κs = search needs
-
-enum-known-x-5 : tie.Need-enum-known-x-5
-enum-known-x-5 c = search needs
-
-branching-requires-5 : tie.Need-branching-requires-5
-branching-requires-5 c κs = search needs
-
-enum-known-x-6 : tie.Need-enum-known-x-6
-enum-known-x-6 c = search needs
-
-branching-requires-6 : tie.Need-branching-requires-6
-branching-requires-6 c κs = search needs
-
-enum-known-x-7 : tie.Need-enum-known-x-7
-enum-known-x-7 c = search needs
-
-branching-requires-7 : tie.Need-branching-requires-7
-branching-requires-7 c κs = search needs
-
-enum-known-x-8 : tie.Need-enum-known-x-8
-enum-known-x-8 c = search needs
-
-branching-requires-8 : tie.Need-branching-requires-8
-branching-requires-8 c κs = search needs
-
-enum-known-x-9 : tie.Need-enum-known-x-9
-enum-known-x-9 c = search needs
-
-branching-requires-9 : tie.Need-branching-requires-9
-branching-requires-9 c κs = search needs
-
-enum-known-x-10 : tie.Need-enum-known-x-10
-enum-known-x-10 c = search needs
-
-branching-requires-10 : tie.Need-branching-requires-10
-branching-requires-10 c κs = search needs
-
-enum-known-x-11 : tie.Need-enum-known-x-11
-enum-known-x-11 c = search needs
-
-branching-requires-11 : tie.Need-branching-requires-11
-branching-requires-11 c κs = search needs
-
-enum-told : tie.Need-enum-told
-enum-told c = search needs
-
 returns : tie.Need-returns
 unfolding wordOf branchFields
 returns c = by-case (λ y. wordOf (branchFields y)) (c .before .before .x .given .1) (c .branching .ensures ∙ sym (field-after _ 0x1ff 7))
@@ -127,29 +58,29 @@ pub branch-word-spec : {M : Type 1} → statement M
 branch-word-spec =
     tie.close
     (tie.spec
-    enum-known-x
-    branching-requires
-    enum-known-x-2
-    branching-requires-2
-    enum-known-x-3
-    branching-requires-3
-    enum-known-x-4
-    branching-requires-4
-    enum-known-x-5
-    branching-requires-5
-    enum-known-x-6
-    branching-requires-6
-    enum-known-x-7
-    branching-requires-7
-    enum-known-x-8
-    branching-requires-8
-    enum-known-x-9
-    branching-requires-9
-    enum-known-x-10
-    branching-requires-10
-    enum-known-x-11
-    branching-requires-11
-    enum-told
+    (λ c. search needs)
+    (λ c κs. search needs)
+    (λ c. search needs)
+    (λ c κs. search needs)
+    (λ c. search needs)
+    (λ c κs. search needs)
+    (λ c. search needs)
+    (λ c κs. search needs)
+    (λ c. search needs)
+    (λ c κs. search needs)
+    (λ c. search needs)
+    (λ c κs. search needs)
+    (λ c. search needs)
+    (λ c κs. search needs)
+    (λ c. search needs)
+    (λ c κs. search needs)
+    (λ c. search needs)
+    (λ c κs. search needs)
+    (λ c. search needs)
+    (λ c κs. search needs)
+    (λ c. search needs)
+    (λ c κs. search needs)
+    (λ c. search needs)
     returns
     returns-2
     returns-3

@@ -6,114 +6,6 @@ use borrow.Author.Needs.{needs}
 use Rattle.encoder.proofs.multiplier_word.Statement.{statement}
 use Rattle.encoder.proofs.multiplier_word.Tie as tie
 
-enum-known-x : tie.Need-enum-known-x
-enum-known-x c = search needs
-
-addressed-requires : tie.Need-addressed-requires
-addressed-requires c κs = search needs
-
-enum-known-x-2 : tie.Need-enum-known-x-2
-enum-known-x-2 c = search needs
-
-addressed-requires-2 : tie.Need-addressed-requires-2
-addressed-requires-2 c κs = search needs
-
-enum-known-x-3 : tie.Need-enum-known-x-3
-enum-known-x-3 c = search needs
-
-addressed-requires-3 : tie.Need-addressed-requires-3
-addressed-requires-3 c κs = search needs
-
-enum-known-x-4 : tie.Need-enum-known-x-4
-enum-known-x-4 c = search needs
-
-addressed-requires-4 : tie.Need-addressed-requires-4
-addressed-requires-4 c κs = search needs
-
-enum-known-x-5 : tie.Need-enum-known-x-5
-enum-known-x-5 c = search needs
-
-addressed-requires-5 : tie.Need-addressed-requires-5
-addressed-requires-5 c κs = search needs
-
-enum-known-x-6 : tie.Need-enum-known-x-6
-enum-known-x-6 c = search needs
-
-addressed-requires-6 : tie.Need-addressed-requires-6
-addressed-requires-6 c κs = search needs
-
-enum-known-x-7 : tie.Need-enum-known-x-7
-enum-known-x-7 c = search needs
-
-addressed-requires-7 : tie.Need-addressed-requires-7
-addressed-requires-7 c κs = search needs
-
-enum-known-x-8 : tie.Need-enum-known-x-8
-enum-known-x-8 c = search needs
-
-addressed-requires-8 : tie.Need-addressed-requires-8
-addressed-requires-8 c κs = search needs
-
-enum-known-x-9 : tie.Need-enum-known-x-9
-enum-known-x-9 c = search needs
-
-add-result : tie.Need-add-result
-add-result c = search needs
-
-enum-known-x-10 : tie.Need-enum-known-x-10
-enum-known-x-10 c = search needs
-
-addressed-requires-9 : tie.Need-addressed-requires-9
-addressed-requires-9 c κs = search needs
-
-enum-known-x-11 : tie.Need-enum-known-x-11
-enum-known-x-11 c = search needs
-
-addressed-requires-10 : tie.Need-addressed-requires-10
-addressed-requires-10 c κs = search needs
-
-enum-known-x-12 : tie.Need-enum-known-x-12
-enum-known-x-12 c = search needs
-
-addressed-requires-11 : tie.Need-addressed-requires-11
-addressed-requires-11 c κs = search needs
-
-enum-known-x-13 : tie.Need-enum-known-x-13
-enum-known-x-13 c = search needs
-
-addressed-requires-12 : tie.Need-addressed-requires-12
-addressed-requires-12 c κs = search needs
-
-enum-told : tie.Need-enum-told
-enum-told c = search needs
-
-enum-told-2 : tie.Need-enum-told-2
-enum-told-2 c = search needs
-
-enum-told-3 : tie.Need-enum-told-3
-enum-told-3 c = search needs
-
-enum-known-x-14 : tie.Need-enum-known-x-14
-enum-known-x-14 c = search needs
-
-addressed-requires-13 : tie.Need-addressed-requires-13
-addressed-requires-13 c κs = search needs
-
-enum-known-x-15 : tie.Need-enum-known-x-15
-enum-known-x-15 c = search needs
-
-addressed-requires-14 : tie.Need-addressed-requires-14
-addressed-requires-14 c κs = search needs
-
-enum-known-x-16 : tie.Need-enum-known-x-16
-enum-known-x-16 c = search needs
-
-cast-result : tie.Need-cast-result
-cast-result c = search needs
-
-add-result-2 : tie.Need-add-result-2
-add-result-2 c = search needs
-
 returns : tie.Need-returns
 unfolding wordOf multiplierFields
 returns c = by-case (λ y. wordOf (multiplierFields y)) (c .before .before .x .given .1) (of-address 0x3C _ (c .addressed .ensures))
@@ -194,42 +86,42 @@ pub multiplier-word-spec : {M : Type 1} → statement M
 multiplier-word-spec =
     tie.close
     (tie.spec
-    enum-known-x
-    addressed-requires
-    enum-known-x-2
-    addressed-requires-2
-    enum-known-x-3
-    addressed-requires-3
-    enum-known-x-4
-    addressed-requires-4
-    enum-known-x-5
-    addressed-requires-5
-    enum-known-x-6
-    addressed-requires-6
-    enum-known-x-7
-    addressed-requires-7
-    enum-known-x-8
-    addressed-requires-8
-    enum-known-x-9
-    add-result
-    enum-known-x-10
-    addressed-requires-9
-    enum-known-x-11
-    addressed-requires-10
-    enum-known-x-12
-    addressed-requires-11
-    enum-known-x-13
-    addressed-requires-12
-    enum-told
-    enum-told-2
-    enum-told-3
-    enum-known-x-14
-    addressed-requires-13
-    enum-known-x-15
-    addressed-requires-14
-    enum-known-x-16
-    cast-result
-    add-result-2
+    (λ c. search needs)
+    (λ c κs. search needs)
+    (λ c. search needs)
+    (λ c κs. search needs)
+    (λ c. search needs)
+    (λ c κs. search needs)
+    (λ c. search needs)
+    (λ c κs. search needs)
+    (λ c. search needs)
+    (λ c κs. search needs)
+    (λ c. search needs)
+    (λ c κs. search needs)
+    (λ c. search needs)
+    (λ c κs. search needs)
+    (λ c. search needs)
+    (λ c κs. search needs)
+    (λ c. search needs)
+    (λ c. search needs)
+    (λ c. search needs)
+    (λ c κs. search needs)
+    (λ c. search needs)
+    (λ c κs. search needs)
+    (λ c. search needs)
+    (λ c κs. search needs)
+    (λ c. search needs)
+    (λ c κs. search needs)
+    (λ c. search needs)
+    (λ c. search needs)
+    (λ c. search needs)
+    (λ c. search needs)
+    (λ c κs. search needs)
+    (λ c. search needs)
+    (λ c κs. search needs)
+    (λ c. search needs)
+    (λ c. search needs)
+    (λ c. search needs)
     returns
     returns-2
     returns-3

@@ -9,4 +9,8 @@ returns-2 : tie.Need-returns-2
 returns-2 c = rw (le-ltb _ _ (c .if1 .left))
 
 pub is-unrepeatable-spec : {M : Type 1} → statement M
-is-unrepeatable-spec = tie.close (tie.spec returns returns-2)
+is-unrepeatable-spec =
+    tie.close
+    (tie.spec
+    returns
+    returns-2)

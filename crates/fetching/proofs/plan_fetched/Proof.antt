@@ -5,24 +5,9 @@ use borrow.Author.Needs.{needs}
 use Rattle.fetching.proofs.plan_fetched.Statement.{statement}
 use Rattle.fetching.proofs.plan_fetched.Tie as tie
 
-program-present-requires : tie.Need-program-present-requires
-program-present-requires c κs = search needs
-
-refuse-requires : tie.Need-refuse-requires
-refuse-requires c κs = search needs
-
 returns : tie.Need-returns
 unfolding fetchPlanBy planBy fetchRows
 returns c = rw (c .refuse .ensures, ← c .before .before .program-present .ensures, c .before .if1 .taken)
-
-program-word-requires : tie.Need-program-word-requires
-program-word-requires c κs = search needs
-
-decode-by-requires : tie.Need-decode-by-requires
-decode-by-requires c κs = search needs
-
-plan-decoded-requires : tie.Need-plan-decoded-requires
-plan-decoded-requires c κs = search needs
 
 returns-2 : tie.Need-returns-2
 unfolding fetchPlanBy planBy fetchRows
@@ -32,10 +17,10 @@ pub plan-fetched-spec : {M : Type 1} → statement M
 plan-fetched-spec =
     tie.close
     (tie.spec
-    program-present-requires
-    refuse-requires
+    (λ c κs. search needs)
+    (λ c κs. search needs)
     returns
-    program-word-requires
-    decode-by-requires
-    plan-decoded-requires
+    (λ c κs. search needs)
+    (λ c κs. search needs)
+    (λ c κs. search needs)
     returns-2)

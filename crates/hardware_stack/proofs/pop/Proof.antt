@@ -42,13 +42,13 @@ use Rattle.hardware_stack.proofs.Stack as T
 use Rattle.hardware_stack.proofs.Stack.Laws as T′
 use Rattle.hardware_stack.proofs.top as top
 use Rattle.hardware_stack.proofs.top.Symbol as top-def
-use Rattle.hardware_stack.proofs.top.Symbol.{name as #stack·top}
+use Rattle.hardware_stack.proofs.top.Symbol.{name as #hardware-stack·top}
 use Rattle.hardware_stack.proofs.top.Met as top-thm
 use Rattle.hardware_stack.proofs.popped as popped
 use Rattle.hardware_stack.proofs.popped.Symbol as popped-def
-use Rattle.hardware_stack.proofs.popped.Symbol.{name as #stack·popped}
+use Rattle.hardware_stack.proofs.popped.Symbol.{name as #hardware-stack·popped}
 use Rattle.hardware_stack.proofs.popped.Met as popped-thm
-use Rattle.hardware_stack.proofs.pop.Key.{name as #stack·pop}
+use Rattle.hardware_stack.proofs.pop.Key.{name as #hardware-stack·pop}
 use Rattle.hardware_stack.proofs.pop as pop
 use Rattle.hardware_stack.proofs.pop.Statement as stated
 use Rattle.hardware_stack.proofs.pop.Code as code
@@ -105,7 +105,7 @@ module _ {M : Type 1} (𝓤 : URA M) (H : Heap 𝓤) (A : Atoms 𝓤) (W : Given
   goes-popped : ent 𝓤 (sem 𝓤 H A (T.the-row .own h (vals h))) (Popped 𝓤 H A at-mem run .pre to-popped)
   goes-popped = qed W (‵ (T.the-row .own h (vals h)) ∷ []) ∵ nothing ! $ move ! (1 ∷ 0 ∷ []) $ join ! $ nothing ! $ join ! $ frame ! $ done !
 
-  module _ (C : Calls 𝓤 H) (Λ : Loops 𝓤 H) (fm : FmC 𝓤 H (W .laws) C) (known-top : Triple 𝓤 (C #stack·top) (Top 𝓤 H A at-mem run)) (known-popped : Triple 𝓤 (C #stack·popped) (Popped 𝓤 H A at-mem run)) where
+  module _ (C : Calls 𝓤 H) (Λ : Loops 𝓤 H) (fm : FmC 𝓤 H (W .laws) C) (known-top : Triple 𝓤 (C #hardware-stack·top) (Top 𝓤 H A at-mem run)) (known-popped : Triple 𝓤 (C #hardware-stack·popped) (Popped 𝓤 H A at-mem run)) where
     walk : ent 𝓤 (onEntry 𝓤 H A pop.signature (κ, tt) (q, tt) x at) (WpFn 𝓤 H C Λ code.function (vptr b o ∷ []) Post)
     walk =
         qed W ((‵ (flft κ q) ⊛ ‵ ftrue) ∷ ‵ (owns (MutRef (named 0) κ (T.the-row) ∷ []) x at) ∷ []) ∵ split ! $ move ! (2 ∷ []) $ fsplit ! $ fsplit3 ! $ drop ! $ move ! (0 ∷ 1 ∷ 3 ∷ []) $
@@ -139,7 +139,7 @@ module _ {M : Type 1} (𝓤 : URA M) (H : Heap 𝓤) (A : Atoms 𝓤) (W : Given
         keep ! (0 ∷ 1 ∷ 2 ∷ []) $ by ! (exits r s v is (e₁, e₂)))))))))))))))))
 
 module _ {M : Type 1} (𝓤 : URA M) (H : Heap 𝓤) (A : Atoms 𝓤) (W : Given 𝓤 H A) (at-mem : Memory → SProp 𝓤) (run : Routine → Fun 𝓤) where
-  pop-walks : (C : Calls 𝓤 H) (Λ : Loops 𝓤 H) → FmC 𝓤 H (W .laws) C → Triple 𝓤 (C #stack·top) (Top 𝓤 H A at-mem run) → Triple 𝓤 (C #stack·popped) (Popped 𝓤 H A at-mem run)
+  pop-walks : (C : Calls 𝓤 H) (Λ : Loops 𝓤 H) → FmC 𝓤 H (W .laws) C → Triple 𝓤 (C #hardware-stack·top) (Top 𝓤 H A at-mem run) → Triple 𝓤 (C #hardware-stack·popped) (Popped 𝓤 H A at-mem run)
       → Walks 𝓤 H A pop.ended stayed (WpFn 𝓤 H C Λ code.function) (pop.clauses 𝓤 H A at-mem run)
   pop-walks C Λ fm known-top known-popped = walked 𝓤 H A pop.ended stayed (pop.clauses 𝓤 H A at-mem run) (WpFn 𝓤 H C Λ code.function) (λ κs. (ptr-vals, tt)) (λ κs. (mut-tells (named 0) (κs .0) (T.the-row), tt))
       (λ κs qs bounds a _ _. via 𝓤 _ (fst∗ 𝓤 _ (emp 𝓤)) (walk 𝓤 H A W at-mem run (κs .0) (qs .0) (a .0 .ptr .0) (a .0 .ptr .1) (a .0 .name) (a .0 .now) C Λ fm known-top known-popped))
@@ -147,7 +147,7 @@ module _ {M : Type 1} (𝓤 : URA M) (H : Heap 𝓤) (A : Atoms 𝓤) (W : Given
   goes : AllGo 𝓤 H A W 1 (pop.signature .params) (pop.ended .kept) stayed
   goes = (goes-ref 𝓤 H A W 1 0 tt (plain (λ _. T.the-row)), tt)
 
-pop-meets : {M : Type 1} (𝓤 : URA M) (H : Heap 𝓤) (A : Atoms 𝓤) → Given 𝓤 H A → (at-mem : Memory → SProp 𝓤) (run : Routine → Fun 𝓤) (𝓣 : Tables 𝓤 H) → Triple 𝓤 (𝓣 .C #stack·top) (Top 𝓤 H A at-mem run) → Triple 𝓤 (𝓣 .C #stack·popped) (Popped 𝓤 H A at-mem run)
+pop-meets : {M : Type 1} (𝓤 : URA M) (H : Heap 𝓤) (A : Atoms 𝓤) → Given 𝓤 H A → (at-mem : Memory → SProp 𝓤) (run : Routine → Fun 𝓤) (𝓣 : Tables 𝓤 H) → Triple 𝓤 (𝓣 .C #hardware-stack·top) (Top 𝓤 H A at-mem run) → Triple 𝓤 (𝓣 .C #hardware-stack·popped) (Popped 𝓤 H A at-mem run)
     → Meets 𝓤 H A pop.signature (WpFn 𝓤 H (𝓣 .C) (𝓣 .Λ) code.function) (pop.spec 𝓤 H A at-mem run)
 pop-meets 𝓤 H A W at-mem run 𝓣 known-top known-popped = walk-meets 𝓤 H A pop.ended stayed W (goes 𝓤 H A W at-mem run) (pop.clauses 𝓤 H A at-mem run) (WpFn 𝓤 H (𝓣 .C) (𝓣 .Λ) code.function) (WpFn-mono 𝓤 H (W .laws) 𝓣 code.function) (pop-walks 𝓤 H A W at-mem run (𝓣 .C) (𝓣 .Λ) (fmOf 𝓤 H (W .laws) 𝓣) known-top known-popped)
 
@@ -155,7 +155,7 @@ pub pop-spec : {M : Type 1} → stated.statement M
 unfolding code.routine tablesOf
 pop-spec 𝓤 H 𝓜 𝓖 𝓡 =
     entered 𝓤 H (tripleOf 𝓤 H (𝓖 .A) pop.signature (pop.spec 𝓤 H (𝓖 .A) (𝓜 .mem) (𝓡 .run)))
-    (tables 𝓤 H 𝓜 𝓡 code.env .C) (tables 𝓤 H 𝓜 𝓡 code.env .Λ) #stack·pop code.function (code.unfolded 𝓤 H 𝓜 𝓡)
+    (tables 𝓤 H 𝓜 𝓡 code.env .C) (tables 𝓤 H 𝓜 𝓡 code.env .Λ) #hardware-stack·pop code.function (code.unfolded 𝓤 H 𝓜 𝓡)
     (pop-meets 𝓤 H (𝓖 .A) (givenOf 𝓤 H 𝓜 𝓖) (𝓜 .mem) (𝓡 .run) (tablesOf 𝓤 H 𝓜 (tables 𝓤 H 𝓜 𝓡 code.env))
-    (cited 𝓤 H (Top 𝓤 H (𝓖 .A) (𝓜 .mem) (𝓡 .run)) 𝓜 𝓡 code.env #stack·top top-def.routine code.calls-stack·top (top-thm.met 𝓤 H 𝓜 𝓖 𝓡))
-    (cited 𝓤 H (Popped 𝓤 H (𝓖 .A) (𝓜 .mem) (𝓡 .run)) 𝓜 𝓡 code.env #stack·popped popped-def.routine code.calls-stack·popped (popped-thm.met 𝓤 H 𝓜 𝓖 𝓡)))
+    (cited 𝓤 H (Top 𝓤 H (𝓖 .A) (𝓜 .mem) (𝓡 .run)) 𝓜 𝓡 code.env #hardware-stack·top top-def.routine code.calls-hardware-stack·top (top-thm.met 𝓤 H 𝓜 𝓖 𝓡))
+    (cited 𝓤 H (Popped 𝓤 H (𝓖 .A) (𝓜 .mem) (𝓡 .run)) 𝓜 𝓡 code.env #hardware-stack·popped popped-def.routine code.calls-hardware-stack·popped (popped-thm.met 𝓤 H 𝓜 𝓖 𝓡)))

@@ -43,9 +43,9 @@ use Rattle.hardware_stack.proofs.Stack as T
 use Rattle.hardware_stack.proofs.Stack.Laws as T′
 use Rattle.hardware_stack.proofs.pushed as pushed
 use Rattle.hardware_stack.proofs.pushed.Symbol as pushed-def
-use Rattle.hardware_stack.proofs.pushed.Symbol.{name as #stack·pushed}
+use Rattle.hardware_stack.proofs.pushed.Symbol.{name as #hardware-stack·pushed}
 use Rattle.hardware_stack.proofs.pushed.Met as pushed-thm
-use Rattle.hardware_stack.proofs.push.Key.{name as #stack·push}
+use Rattle.hardware_stack.proofs.push.Key.{name as #hardware-stack·push}
 use Rattle.hardware_stack.proofs.push as push
 use Rattle.hardware_stack.proofs.push.Statement as stated
 use Rattle.hardware_stack.proofs.push.Code as code
@@ -94,7 +94,7 @@ module _ {M : Type 1} (𝓤 : URA M) (H : Heap 𝓤) (A : Atoms 𝓤) (W : Given
   goes-pushed fits =
       qed W (‵ (T.the-row .own h (vals h)) ∷ []) ∵ nothing ! $ owned ! u16 (Is u16) (uint-makes 𝓤 H A W w16) n _ (refl, fits) $ join ! $ move ! (1 ∷ 0 ∷ []) $ join ! $ nothing ! $ join ! $ frame ! $ done !
 
-  module _ (C : Calls 𝓤 H) (Λ : Loops 𝓤 H) (fm : FmC 𝓤 H (W .laws) C) (known : Triple 𝓤 (C #stack·pushed) (Pushed 𝓤 H A at-mem run)) where
+  module _ (C : Calls 𝓤 H) (Λ : Loops 𝓤 H) (fm : FmC 𝓤 H (W .laws) C) (known : Triple 𝓤 (C #hardware-stack·pushed) (Pushed 𝓤 H A at-mem run)) where
     walk : ent 𝓤 (onEntry 𝓤 H A push.signature (κ, tt) (q, tt) x at) (WpFn 𝓤 H C Λ code.function (vptr b o ∷ vint w16 n ∷ []) Post)
     walk =
         qed W ((‵ (flft κ q) ⊛ ‵ ftrue) ∷ ‵ (owns (MutRef (named 0) κ (T.the-row) ∷ u16 ∷ []) x at) ∷ []) ∵ split ! $ move ! (2 ∷ []) $ fsplit ! $ move ! (1 ∷ []) $ fsplit ! $
@@ -122,14 +122,14 @@ module _ {M : Type 1} (𝓤 : URA M) (H : Heap 𝓤) (A : Atoms 𝓤) (W : Given
         keep ! (0 ∷ 1 ∷ 2 ∷ []) $ by ! (exits (gn .1) r e)))))))))))))
 
 module _ {M : Type 1} (𝓤 : URA M) (H : Heap 𝓤) (A : Atoms 𝓤) (W : Given 𝓤 H A) (at-mem : Memory → SProp 𝓤) (run : Routine → Fun 𝓤) where
-  push-walks : (C : Calls 𝓤 H) (Λ : Loops 𝓤 H) → FmC 𝓤 H (W .laws) C → Triple 𝓤 (C #stack·pushed) (Pushed 𝓤 H A at-mem run) → Walks 𝓤 H A push.ended stayed (WpFn 𝓤 H C Λ code.function) (push.clauses 𝓤 H A at-mem run)
+  push-walks : (C : Calls 𝓤 H) (Λ : Loops 𝓤 H) → FmC 𝓤 H (W .laws) C → Triple 𝓤 (C #hardware-stack·pushed) (Pushed 𝓤 H A at-mem run) → Walks 𝓤 H A push.ended stayed (WpFn 𝓤 H C Λ code.function) (push.clauses 𝓤 H A at-mem run)
   push-walks C Λ fm known = walked 𝓤 H A push.ended stayed (push.clauses 𝓤 H A at-mem run) (WpFn 𝓤 H C Λ code.function) (λ κs. (ptr-vals, (uint-vals w16, tt))) (λ κs. (mut-tells (named 0) (κs .0) (T.the-row), (uint-tells w16, tt)))
       (λ κs qs bounds a _ _. via 𝓤 _ (fst∗ 𝓤 _ (emp 𝓤)) (walk 𝓤 H A W at-mem run (κs .0) (qs .0) (a .0 .ptr .0) (a .0 .ptr .1) (a .0 .name) (a .0 .now) (a .1 .0) C Λ fm known))
 
   goes : AllGo 𝓤 H A W 1 (push.signature .params) (push.ended .kept) stayed
   goes = (goes-ref 𝓤 H A W 1 0 tt (plain (λ _. T.the-row)), (goes-none 𝓤 H A W 1 (λ _. u16) yes (λ κs x f. refl), tt))
 
-push-meets : {M : Type 1} (𝓤 : URA M) (H : Heap 𝓤) (A : Atoms 𝓤) → Given 𝓤 H A → (at-mem : Memory → SProp 𝓤) (run : Routine → Fun 𝓤) (𝓣 : Tables 𝓤 H) → Triple 𝓤 (𝓣 .C #stack·pushed) (Pushed 𝓤 H A at-mem run)
+push-meets : {M : Type 1} (𝓤 : URA M) (H : Heap 𝓤) (A : Atoms 𝓤) → Given 𝓤 H A → (at-mem : Memory → SProp 𝓤) (run : Routine → Fun 𝓤) (𝓣 : Tables 𝓤 H) → Triple 𝓤 (𝓣 .C #hardware-stack·pushed) (Pushed 𝓤 H A at-mem run)
     → Meets 𝓤 H A push.signature (WpFn 𝓤 H (𝓣 .C) (𝓣 .Λ) code.function) (push.spec 𝓤 H A at-mem run)
 push-meets 𝓤 H A W at-mem run 𝓣 known = walk-meets 𝓤 H A push.ended stayed W (goes 𝓤 H A W at-mem run) (push.clauses 𝓤 H A at-mem run) (WpFn 𝓤 H (𝓣 .C) (𝓣 .Λ) code.function) (WpFn-mono 𝓤 H (W .laws) 𝓣 code.function) (push-walks 𝓤 H A W at-mem run (𝓣 .C) (𝓣 .Λ) (fmOf 𝓤 H (W .laws) 𝓣) known)
 
@@ -137,6 +137,6 @@ pub push-spec : {M : Type 1} → stated.statement M
 unfolding code.routine tablesOf
 push-spec 𝓤 H 𝓜 𝓖 𝓡 =
     entered 𝓤 H (tripleOf 𝓤 H (𝓖 .A) push.signature (push.spec 𝓤 H (𝓖 .A) (𝓜 .mem) (𝓡 .run)))
-    (tables 𝓤 H 𝓜 𝓡 code.env .C) (tables 𝓤 H 𝓜 𝓡 code.env .Λ) #stack·push code.function (code.unfolded 𝓤 H 𝓜 𝓡)
+    (tables 𝓤 H 𝓜 𝓡 code.env .C) (tables 𝓤 H 𝓜 𝓡 code.env .Λ) #hardware-stack·push code.function (code.unfolded 𝓤 H 𝓜 𝓡)
     (push-meets 𝓤 H (𝓖 .A) (givenOf 𝓤 H 𝓜 𝓖) (𝓜 .mem) (𝓡 .run) (tablesOf 𝓤 H 𝓜 (tables 𝓤 H 𝓜 𝓡 code.env))
-    (cited 𝓤 H (Pushed 𝓤 H (𝓖 .A) (𝓜 .mem) (𝓡 .run)) 𝓜 𝓡 code.env #stack·pushed pushed-def.routine code.calls-stack·pushed (pushed-thm.met 𝓤 H 𝓜 𝓖 𝓡)))
+    (cited 𝓤 H (Pushed 𝓤 H (𝓖 .A) (𝓜 .mem) (𝓡 .run)) 𝓜 𝓡 code.env #hardware-stack·pushed pushed-def.routine code.calls-hardware-stack·pushed (pushed-thm.met 𝓤 H 𝓜 𝓖 𝓡)))

@@ -8,4 +8,7 @@ unfolding lowFits
 returns c = simp both-true
 
 pub is-indirect-spec : {M : Type 1} → statement M
-is-indirect-spec = tie.close (tie.spec returns)
+is-indirect-spec =
+    tie.close
+    (tie.spec
+    returns)

@@ -8,4 +8,7 @@ unfolding lowFits
 returns c = refl
 
 pub is-operand-spec : {M : Type 1} → statement M
-is-operand-spec = tie.close (tie.spec returns)
+is-operand-spec =
+    tie.close
+    (tie.spec
+    returns)

@@ -8,4 +8,7 @@ unfolding kindTable
 returns c = refl
 
 pub kinds-spec : {M : Type 1} → statement M
-kinds-spec = tie.close (tie.spec returns)
+kinds-spec =
+    tie.close
+    (tie.spec
+    returns)

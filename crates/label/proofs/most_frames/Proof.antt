@@ -6,4 +6,7 @@ returns : tie.Need-returns
 returns c = most-127
 
 pub most-frames-spec : {M : Type 1} → statement M
-most-frames-spec = tie.close (tie.spec returns)
+most-frames-spec =
+    tie.close
+    (tie.spec
+    returns)

@@ -27,4 +27,12 @@ returns c = counted-all (c .before .loop .inv) (omega arith)
 
 pub decimal-length-spec : {M : Type 1} → statement M
 decimal-length-spec =
-    tie.close (tie.spec Inv-loop μ-loop loop-holds add-places loop-less loop-again returns)
+    tie.close
+    (tie.spec
+    Inv-loop
+    μ-loop
+    loop-holds
+    add-places
+    loop-less
+    loop-again
+    returns)

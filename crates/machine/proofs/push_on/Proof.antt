@@ -51,7 +51,7 @@ use Rattle.machine.proofs.Machine as T
 use Rattle.machine.proofs.Machine.Laws as T′
 use Rattle.hardware_stack.proofs.push as push
 use Rattle.hardware_stack.proofs.push.Symbol as push-def
-use Rattle.hardware_stack.proofs.push.Symbol.{name as #stack·push}
+use Rattle.hardware_stack.proofs.push.Symbol.{name as #hardware-stack·push}
 use Rattle.hardware_stack.proofs.push.Met as push-thm
 use Rattle.machine.proofs.push_on.Key.{name as #machine·push-on}
 use Rattle.machine.proofs.push_on as push-on
@@ -93,7 +93,7 @@ module _ {M : Type 1} (𝓤 : URA M) (H : Heap 𝓤) (A : Atoms 𝓤) (W : Given
   abbrev Field : ℕ → Val → SProp 𝓤
   Field l u = wand 𝓤 (H .at fullShare S′.mir l d u) (H .at fullShare T′.mir l 0 (mach m u))
 
-  module _ (C : Calls 𝓤 H) (Λ : Loops 𝓤 H) (fm : FmC 𝓤 H (W .laws) C) (known : Triple 𝓤 (C #stack·push) (Push 𝓤 H A at-mem run)) where
+  module _ (C : Calls 𝓤 H) (Λ : Loops 𝓤 H) (fm : FmC 𝓤 H (W .laws) C) (known : Triple 𝓤 (C #hardware-stack·push) (Push 𝓤 H A at-mem run)) where
     walk : Holds (hasTy T′.mir (only (vals m))) × WT (only (vals m)) → ent 𝓤 (onEntry 𝓤 H A push-on.signature tt tt (m, (n, tt)) (vals m, (vint w16 n ∷ [], tt))) (WpFn 𝓤 H C Λ code.function (only (vals m) ∷ vint w16 n ∷ []) Post)
     unfolding partOf
     walk wt =
@@ -133,14 +133,14 @@ module _ {M : Type 1} (𝓤 : URA M) (H : Heap 𝓤) (A : Atoms 𝓤) (W : Given
         keep ! [] $ by ! (exits (zs .0) is e))))))))))))))))
 
 module _ {M : Type 1} (𝓤 : URA M) (H : Heap 𝓤) (A : Atoms 𝓤) (W : Given 𝓤 H A) (at-mem : Memory → SProp 𝓤) (run : Routine → Fun 𝓤) where
-  push-on-walks : (C : Calls 𝓤 H) (Λ : Loops 𝓤 H) → FmC 𝓤 H (W .laws) C → Triple 𝓤 (C #stack·push) (Push 𝓤 H A at-mem run) → Walks 𝓤 H A push-on.ended stayed (WpFn 𝓤 H C Λ code.function) (push-on.clauses 𝓤 H A at-mem run)
+  push-on-walks : (C : Calls 𝓤 H) (Λ : Loops 𝓤 H) → FmC 𝓤 H (W .laws) C → Triple 𝓤 (C #hardware-stack·push) (Push 𝓤 H A at-mem run) → Walks 𝓤 H A push-on.ended stayed (WpFn 𝓤 H C Λ code.function) (push-on.clauses 𝓤 H A at-mem run)
   push-on-walks C Λ fm known = walked 𝓤 H A push-on.ended stayed (push-on.clauses 𝓤 H A at-mem run) (WpFn 𝓤 H C Λ code.function) (λ κs. (vals, (uint-vals w16, tt))) (λ κs. (LL.tells T.the-type T′.the-laws, (uint-tells w16, tt)))
       (λ κs qs bounds a _ are. via 𝓤 _ (fst∗ 𝓤 _ (emp 𝓤)) (walk 𝓤 H A W at-mem run (a .0) (a .1 .0) (are .0) (are .1 .0 .1) C Λ fm known (LL.lawful T.the-type T′.the-laws 𝓤 H A W .typed (a .0) _ (are .0) .0)))
 
   goes : AllGo 𝓤 H A W 0 (push-on.signature .params) (push-on.ended .kept) stayed
   goes = (goes-none 𝓤 H A W 0 (λ _. T.the-row) yes (λ κs x f. refl), (goes-none 𝓤 H A W 0 (λ _. u16) yes (λ κs x f. refl), tt))
 
-push-on-meets : {M : Type 1} (𝓤 : URA M) (H : Heap 𝓤) (A : Atoms 𝓤) → Given 𝓤 H A → (at-mem : Memory → SProp 𝓤) (run : Routine → Fun 𝓤) (𝓣 : Tables 𝓤 H) → Triple 𝓤 (𝓣 .C #stack·push) (Push 𝓤 H A at-mem run)
+push-on-meets : {M : Type 1} (𝓤 : URA M) (H : Heap 𝓤) (A : Atoms 𝓤) → Given 𝓤 H A → (at-mem : Memory → SProp 𝓤) (run : Routine → Fun 𝓤) (𝓣 : Tables 𝓤 H) → Triple 𝓤 (𝓣 .C #hardware-stack·push) (Push 𝓤 H A at-mem run)
     → Meets 𝓤 H A push-on.signature (WpFn 𝓤 H (𝓣 .C) (𝓣 .Λ) code.function) (push-on.spec 𝓤 H A at-mem run)
 push-on-meets 𝓤 H A W at-mem run 𝓣 known = walk-meets 𝓤 H A push-on.ended stayed W (goes 𝓤 H A W at-mem run) (push-on.clauses 𝓤 H A at-mem run) (WpFn 𝓤 H (𝓣 .C) (𝓣 .Λ) code.function) (WpFn-mono 𝓤 H (W .laws) 𝓣 code.function) (push-on-walks 𝓤 H A W at-mem run (𝓣 .C) (𝓣 .Λ) (fmOf 𝓤 H (W .laws) 𝓣) known)
 
@@ -150,4 +150,4 @@ push-on-spec 𝓤 H 𝓜 𝓖 𝓡 =
     entered 𝓤 H (tripleOf 𝓤 H (𝓖 .A) push-on.signature (push-on.spec 𝓤 H (𝓖 .A) (𝓜 .mem) (𝓡 .run)))
     (tables 𝓤 H 𝓜 𝓡 code.env .C) (tables 𝓤 H 𝓜 𝓡 code.env .Λ) #machine·push-on code.function (code.unfolded 𝓤 H 𝓜 𝓡)
     (push-on-meets 𝓤 H (𝓖 .A) (givenOf 𝓤 H 𝓜 𝓖) (𝓜 .mem) (𝓡 .run) (tablesOf 𝓤 H 𝓜 (tables 𝓤 H 𝓜 𝓡 code.env))
-    (cited 𝓤 H (Push 𝓤 H (𝓖 .A) (𝓜 .mem) (𝓡 .run)) 𝓜 𝓡 code.env #stack·push push-def.routine code.calls-stack·push (push-thm.met 𝓤 H 𝓜 𝓖 𝓡)))
+    (cited 𝓤 H (Push 𝓤 H (𝓖 .A) (𝓜 .mem) (𝓡 .run)) 𝓜 𝓡 code.env #hardware-stack·push push-def.routine code.calls-hardware-stack·push (push-thm.met 𝓤 H 𝓜 𝓖 𝓡)))

@@ -10,18 +10,6 @@ use borrow.Author.Needs.{needs}
 use Rattle.meanings.proofs.accumulator_page.Statement.{statement}
 use Rattle.meanings.proofs.accumulator_page.Tie as tie
 
-cast-low : tie.Need-cast-low
-cast-low c = search needs
-
-cast-shift : tie.Need-cast-shift
-cast-shift c = search needs
-
-cast-stored-shift : tie.Need-cast-stored-shift
-cast-stored-shift c = search needs
-
-address-of-requires : tie.Need-address-of-requires
-address-of-requires c κs = search needs
-
 returns : tie.Need-returns
 returns c = rw (c .match .keys1) (page-means 0 _ _ (ap (λ (a : Address). accumulator (Add (c .before .before .args .w / 256 % 16) a)) (c .before .address-of .ensures)))
 
@@ -95,10 +83,10 @@ pub accumulator-page-spec : {M : Type 1} → statement M
 accumulator-page-spec =
     tie.close
     (tie.spec
-    cast-low
-    cast-shift
-    cast-stored-shift
-    address-of-requires
+    (λ c. search needs)
+    (λ c. search needs)
+    (λ c. search needs)
+    (λ c κs. search needs)
     returns
     returns-2
     returns-3

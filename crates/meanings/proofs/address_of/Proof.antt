@@ -8,12 +8,14 @@ returns : tie.Need-returns
 unfolding addressModeOf
 returns c = simp (lt-ltb _ _ (c .if1 .taken))
 
-indirect-of-requires : tie.Need-indirect-of-requires
-indirect-of-requires c κs = search needs
-
 returns-2 : tie.Need-returns-2
 unfolding addressModeOf
 returns-2 c = rw (le-ltb _ _ (c .before .if1 .left), c .indirect-of .ensures)
 
 pub address-of-spec : {M : Type 1} → statement M
-address-of-spec = tie.close (tie.spec returns indirect-of-requires returns-2)
+address-of-spec =
+    tie.close
+    (tie.spec
+    returns
+    (λ c κs. search needs)
+    returns-2)

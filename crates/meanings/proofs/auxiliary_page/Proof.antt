@@ -10,15 +10,6 @@ use borrow.Author.Needs.{needs}
 use Rattle.meanings.proofs.auxiliary_page.Statement.{statement}
 use Rattle.meanings.proofs.auxiliary_page.Tie as tie
 
-cast-low : tie.Need-cast-low
-cast-low c = search needs
-
-cast-register : tie.Need-cast-register
-cast-register c = search needs
-
-address-of-requires : tie.Need-address-of-requires
-address-of-requires c κs = search needs
-
 returns : tie.Need-returns
 returns c = rw (c .match .keys1) (page-means 42 _ _ (ap (λ (a : Address). auxiliary (Lar (c .before .before .args .w / 256 % 8) a)) (c .before .address-of .ensures)))
 
@@ -47,9 +38,9 @@ pub auxiliary-page-spec : {M : Type 1} → statement M
 auxiliary-page-spec =
     tie.close
     (tie.spec
-    cast-low
-    cast-register
-    address-of-requires
+    (λ c. search needs)
+    (λ c. search needs)
+    (λ c κs. search needs)
     returns
     returns-2
     returns-3

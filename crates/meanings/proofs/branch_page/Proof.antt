@@ -8,12 +8,6 @@ use borrow.Author.Needs.{needs}
 use Rattle.meanings.proofs.branch_page.Statement.{statement}
 use Rattle.meanings.proofs.branch_page.Tie as tie
 
-cast-indirect-of : tie.Need-cast-indirect-of
-cast-indirect-of c = search needs
-
-indirect-of-requires : tie.Need-indirect-of-requires
-indirect-of-requires c κs = search needs
-
 returns : tie.Need-returns
 returns c = rw (c .match .keys1) (page-means 50 _ _ (ap (λ (a : Indirect). branches (B a)) (c .before .indirect-of .ensures)))
 
@@ -54,8 +48,8 @@ pub branch-page-spec : {M : Type 1} → statement M
 branch-page-spec =
     tie.close
     (tie.spec
-    cast-indirect-of
-    indirect-of-requires
+    (λ c. search needs)
+    (λ c κs. search needs)
     returns
     returns-2
     returns-3

@@ -3,15 +3,14 @@ use borrow.Author.Needs.{needs}
 use Rattle.meanings.proofs.indirect_of.Statement.{statement}
 use Rattle.meanings.proofs.indirect_of.Tie as tie
 
-modification-of-requires : tie.Need-modification-of-requires
-modification-of-requires c κs = search needs
-
-next-of-requires : tie.Need-next-of-requires
-next-of-requires c κs = search needs
-
 returns : tie.Need-returns
 unfolding indirectOf
 returns c = rw (c .next-of .ensures, c .before .modification-of .ensures)
 
 pub indirect-of-spec : {M : Type 1} → statement M
-indirect-of-spec = tie.close (tie.spec modification-of-requires next-of-requires returns)
+indirect-of-spec =
+    tie.close
+    (tie.spec
+    (λ c κs. search needs)
+    (λ c κs. search needs)
+    returns)

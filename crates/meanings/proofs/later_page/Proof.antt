@@ -8,4 +8,7 @@ unfolding laterBuilt
 returns c = none-later (c .args .page) (c .args .w) (c .pre .0) (c .pre .1) tt
 
 pub later-page-spec : {M : Type 1} → statement M
-later-page-spec = tie.close (tie.spec returns)
+later-page-spec =
+    tie.close
+    (tie.spec
+    returns)

@@ -10,15 +10,6 @@ use borrow.Author.Needs.{needs}
 use Rattle.meanings.proofs.mode_page.Statement.{statement}
 use Rattle.meanings.proofs.mode_page.Tie as tie
 
-cast-address-of : tie.Need-cast-address-of
-cast-address-of c = search needs
-
-address-of-requires : tie.Need-address-of-requires
-address-of-requires c κs = search needs
-
-cast-t8 : tie.Need-cast-t8
-cast-t8 c = search needs
-
 returns : tie.Need-returns
 returns c = rw (c .match .keys1) (page-means 65 _ _ (ap (λ (a : Address). modes (Rpt a)) (c .before .address-of .ensures)))
 
@@ -53,9 +44,9 @@ pub mode-page-spec : {M : Type 1} → statement M
 mode-page-spec =
     tie.close
     (tie.spec
-    cast-address-of
-    address-of-requires
-    cast-t8
+    (λ c. search needs)
+    (λ c κs. search needs)
+    (λ c. search needs)
     returns
     returns-2
     returns-3

@@ -10,15 +10,6 @@ use borrow.Author.Needs.{needs}
 use Rattle.meanings.proofs.multiplier_page.Statement.{statement}
 use Rattle.meanings.proofs.multiplier_page.Tie as tie
 
-cast-address-of : tie.Need-cast-address-of
-cast-address-of c = search needs
-
-address-of-requires : tie.Need-address-of-requires
-address-of-requires c κs = search needs
-
-cast-t9 : tie.Need-cast-t9
-cast-t9 c = search needs
-
 returns : tie.Need-returns
 returns c = rw (c .match .keys1) (page-means 23 _ _ (ap (λ (a : Address). multiplier (Lt a)) (c .before .address-of .ensures)))
 
@@ -80,9 +71,9 @@ pub multiplier-page-spec : {M : Type 1} → statement M
 multiplier-page-spec =
     tie.close
     (tie.spec
-    cast-address-of
-    address-of-requires
-    cast-t9
+    (λ c. search needs)
+    (λ c κs. search needs)
+    (λ c. search needs)
     returns
     returns-2
     returns-3

@@ -12,4 +12,8 @@ unfolding nextOf
 returns-2 c = simp (ne-eqb _ _ (c .if1 .left))
 
 pub next-of-spec : {M : Type 1} → statement M
-next-of-spec = tie.close (tie.spec returns returns-2)
+next-of-spec =
+    tie.close
+    (tie.spec
+    returns
+    returns-2)

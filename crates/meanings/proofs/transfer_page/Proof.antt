@@ -9,18 +9,6 @@ use borrow.Author.Needs.{needs}
 use Rattle.meanings.proofs.transfer_page.Statement.{statement}
 use Rattle.meanings.proofs.transfer_page.Tie as tie
 
-cast-address-of : tie.Need-cast-address-of
-cast-address-of c = search needs
-
-address-of-requires : tie.Need-address-of-requires
-address-of-requires c κs = search needs
-
-cast-t9 : tie.Need-cast-t9
-cast-t9 c = search needs
-
-cast-t12 : tie.Need-cast-t12
-cast-t12 c = search needs
-
 returns : tie.Need-returns
 returns c = rw (c .match .keys1) (page-means 62 _ _ (ap (λ (a : Address). transfers (Dmov a)) (c .before .address-of .ensures)))
 
@@ -33,4 +21,11 @@ returns-3 c = rw (last-key 62 2 (c .before .before .args .page) (c .match .rest)
 pub transfer-page-spec : {M : Type 1} → statement M
 transfer-page-spec =
     tie.close
-    (tie.spec cast-address-of address-of-requires cast-t9 cast-t12 returns returns-2 returns-3)
+    (tie.spec
+    (λ c. search needs)
+    (λ c κs. search needs)
+    (λ c. search needs)
+    (λ c. search needs)
+    returns
+    returns-2
+    returns-3)

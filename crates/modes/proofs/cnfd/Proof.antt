@@ -8,4 +8,7 @@ unfolding CNFD
 returns c = refl
 
 pub cnfd-spec : {M : Type 1} → statement M
-cnfd-spec = tie.close (tie.spec returns)
+cnfd-spec =
+    tie.close
+    (tie.spec
+    returns)

@@ -8,4 +8,7 @@ unfolding CNFP
 returns c = refl
 
 pub cnfp-spec : {M : Type 1} → statement M
-cnfp-spec = tie.close (tie.spec returns)
+cnfp-spec =
+    tie.close
+    (tie.spec
+    returns)

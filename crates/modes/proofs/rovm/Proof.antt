@@ -8,4 +8,7 @@ unfolding ROVM
 returns c = refl
 
 pub rovm-spec : {M : Type 1} → statement M
-rovm-spec = tie.close (tie.spec returns)
+rovm-spec =
+    tie.close
+    (tie.spec
+    returns)

@@ -8,4 +8,7 @@ unfolding RPT
 returns c = refl
 
 pub rpt-spec : {M : Type 1} → statement M
-rpt-spec = tie.close (tie.spec returns)
+rpt-spec =
+    tie.close
+    (tie.spec
+    returns)

@@ -8,4 +8,7 @@ unfolding RPTK
 returns c = refl
 
 pub rptk-spec : {M : Type 1} → statement M
-rptk-spec = tie.close (tie.spec returns)
+rptk-spec =
+    tie.close
+    (tie.spec
+    returns)

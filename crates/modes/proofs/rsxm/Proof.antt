@@ -8,4 +8,7 @@ unfolding RSXM
 returns c = refl
 
 pub rsxm-spec : {M : Type 1} → statement M
-rsxm-spec = tie.close (tie.spec returns)
+rsxm-spec =
+    tie.close
+    (tie.spec
+    returns)

@@ -8,4 +8,7 @@ unfolding SOVM
 returns c = refl
 
 pub sovm-spec : {M : Type 1} → statement M
-sovm-spec = tie.close (tie.spec returns)
+sovm-spec =
+    tie.close
+    (tie.spec
+    returns)

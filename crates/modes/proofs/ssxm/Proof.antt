@@ -8,4 +8,7 @@ unfolding SSXM
 returns c = refl
 
 pub ssxm-spec : {M : Type 1} → statement M
-ssxm-spec = tie.close (tie.spec returns)
+ssxm-spec =
+    tie.close
+    (tie.spec
+    returns)

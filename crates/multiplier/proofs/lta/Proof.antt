@@ -3,15 +3,14 @@ use borrow.Author.Needs.{needs}
 use Rattle.multiplier.proofs.lta.Statement.{statement}
 use Rattle.multiplier.proofs.lta.Tie as tie
 
-apac-requires : tie.Need-apac-requires
-apac-requires c κs = search needs
-
-with-t-requires : tie.Need-with-t-requires
-with-t-requires c κs = search needs
-
 returns : tie.Need-returns
 unfolding LTA
 returns c = rw (c .with-t .ensures, c .before .apac .ensures)
 
 pub lta-spec : {M : Type 1} → statement M
-lta-spec = tie.close (tie.spec apac-requires with-t-requires returns)
+lta-spec =
+    tie.close
+    (tie.spec
+    (λ c κs. search needs)
+    (λ c κs. search needs)
+    returns)

@@ -3,15 +3,14 @@ use borrow.Author.Needs.{needs}
 use Rattle.multiplier.proofs.lts.Statement.{statement}
 use Rattle.multiplier.proofs.lts.Tie as tie
 
-spac-requires : tie.Need-spac-requires
-spac-requires c κs = search needs
-
-with-t-requires : tie.Need-with-t-requires
-with-t-requires c κs = search needs
-
 returns : tie.Need-returns
 unfolding LTS
 returns c = rw (c .with-t .ensures, c .before .spac .ensures)
 
 pub lts-spec : {M : Type 1} → statement M
-lts-spec = tie.close (tie.spec spac-requires with-t-requires returns)
+lts-spec =
+    tie.close
+    (tie.spec
+    (λ c κs. search needs)
+    (λ c κs. search needs)
+    returns)

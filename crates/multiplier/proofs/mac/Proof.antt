@@ -3,21 +3,6 @@ use borrow.Author.Needs.{needs}
 use Rattle.multiplier.proofs.mac.Statement.{statement}
 use Rattle.multiplier.proofs.mac.Tie as tie
 
-apac-requires : tie.Need-apac-requires
-apac-requires c κs = search needs
-
-with-t-requires : tie.Need-with-t-requires
-with-t-requires c κs = search needs
-
-product-requires : tie.Need-product-requires
-product-requires c κs = search needs
-
-with-p-requires : tie.Need-with-p-requires
-with-p-requires c κs = search needs
-
-wrapped-sum-requires : tie.Need-wrapped-sum-requires
-wrapped-sum-requires c κs = search needs
-
 returns : tie.Need-returns
 unfolding MAC
 returns c = rw (c .wrapped-sum .ensures, c .before .with-p .ensures, c .before .before .product .ensures, c .before .before .before .with-t .ensures, c .before .before .before .before .apac .ensures)
@@ -26,9 +11,9 @@ pub mac-spec : {M : Type 1} → statement M
 mac-spec =
     tie.close
     (tie.spec
-    apac-requires
-    with-t-requires
-    product-requires
-    with-p-requires
-    wrapped-sum-requires
+    (λ c κs. search needs)
+    (λ c κs. search needs)
+    (λ c κs. search needs)
+    (λ c κs. search needs)
+    (λ c κs. search needs)
     returns)

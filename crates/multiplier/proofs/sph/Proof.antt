@@ -3,12 +3,13 @@ use borrow.Author.Needs.{needs}
 use Rattle.multiplier.proofs.sph.Statement.{statement}
 use Rattle.multiplier.proofs.sph.Tie as tie
 
-product-high-requires : tie.Need-product-high-requires
-product-high-requires c κs = search needs
-
 returns : tie.Need-returns
 unfolding SPH
 returns c = rw (c .product-high .ensures)
 
 pub sph-spec : {M : Type 1} → statement M
-sph-spec = tie.close (tie.spec product-high-requires returns)
+sph-spec =
+    tie.close
+    (tie.spec
+    (λ c κs. search needs)
+    returns)

@@ -3,12 +3,13 @@ use borrow.Author.Needs.{needs}
 use Rattle.multiplier.proofs.spl.Statement.{statement}
 use Rattle.multiplier.proofs.spl.Tie as tie
 
-product-low-requires : tie.Need-product-low-requires
-product-low-requires c κs = search needs
-
 returns : tie.Need-returns
 unfolding SPL
 returns c = rw (c .product-low .ensures)
 
 pub spl-spec : {M : Type 1} → statement M
-spl-spec = tie.close (tie.spec product-low-requires returns)
+spl-spec =
+    tie.close
+    (tie.spec
+    (λ c κs. search needs)
+    returns)

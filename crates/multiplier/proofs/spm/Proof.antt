@@ -8,4 +8,7 @@ unfolding SPM
 returns c = refl
 
 pub spm-spec : {M : Type 1} → statement M
-spm-spec = tie.close (tie.spec returns)
+spm-spec =
+    tie.close
+    (tie.spec
+    returns)

@@ -12,15 +12,6 @@ returns : tie.Need-returns
 unfolding followed destination
 returns c = rw (c .before .if1 .taken)
 
-enum-told : tie.Need-enum-told
-enum-told c = search needs
-
-wrapped-sum-requires : tie.Need-wrapped-sum-requires
-wrapped-sum-requires c κs = search needs
-
-enum-known-jump : tie.Need-enum-known-jump
-enum-known-jump c = search needs
-
 returns-2 : tie.Need-returns-2
 unfolding followed destination
 returns-2 c = rw (c .wrapped-sum .ensures, c .before .before .before .if1 .left, c .before .enum-told .given .1)
@@ -32,4 +23,11 @@ returns-3 c = rw (c .before .before .before .if1 .left, c .before .jump .given .
 pub follow-spec : {M : Type 1} → statement M
 follow-spec =
     tie.close
-    (tie.spec sub-n returns enum-told wrapped-sum-requires enum-known-jump returns-2 returns-3)
+    (tie.spec
+    sub-n
+    returns
+    (λ c. search needs)
+    (λ c κs. search needs)
+    (λ c. search needs)
+    returns-2
+    returns-3)

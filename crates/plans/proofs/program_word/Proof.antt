@@ -6,12 +6,6 @@ use borrow.Author.Needs.{needs}
 use Rattle.plans.proofs.program_word.Statement.{statement}
 use Rattle.plans.proofs.program_word.Tie as tie
 
-region-window-requires : tie.Need-region-window-requires
-region-window-requires c κs = search needs
-
-shared-slice-read-result : tie.Need-shared-slice-read-result
-shared-slice-read-result c = search needs
-
 returns : tie.Need-returns
 unfolding programWord
 returns c = rw (c .before .before .region-window .ensures .0)
@@ -22,4 +16,9 @@ returns-2 c = rw (← c .before .region-window .ensures .0) (sym (List·getD-eq-
 
 pub program-word-spec : {M : Type 1} → statement M
 program-word-spec =
-    tie.close (tie.spec region-window-requires shared-slice-read-result returns returns-2)
+    tie.close
+    (tie.spec
+    (λ c κs. search needs)
+    (λ c. search needs)
+    returns
+    returns-2)

@@ -3,18 +3,6 @@ use borrow.Author.Needs.{needs}
 use Rattle.plans.proofs.read_word.Statement.{statement}
 use Rattle.plans.proofs.read_word.Tie as tie
 
-enum-told : tie.Need-enum-told
-enum-told c = search needs
-
-enum-told-2 : tie.Need-enum-told-2
-enum-told-2 c = search needs
-
-word-at-requires : tie.Need-word-at-requires
-word-at-requires c κs = search needs
-
-enum-told-3 : tie.Need-enum-told-3
-enum-told-3 c = search needs
-
 returns : tie.Need-returns
 unfolding readWord
 returns c = rw (c .enum-told .given .1)
@@ -30,4 +18,11 @@ returns-3 c = rw (c .enum-told3 .given .1)
 pub read-word-spec : {M : Type 1} → statement M
 read-word-spec =
     tie.close
-    (tie.spec enum-told enum-told-2 word-at-requires enum-told-3 returns returns-2 returns-3)
+    (tie.spec
+    (λ c. search needs)
+    (λ c. search needs)
+    (λ c κs. search needs)
+    (λ c. search needs)
+    returns
+    returns-2
+    returns-3)

@@ -4,15 +4,6 @@ use borrow.Author.Needs.{needs}
 use Rattle.plans.proofs.words_read.Statement.{statement}
 use Rattle.plans.proofs.words_read.Tie as tie
 
-read-word-requires : tie.Need-read-word-requires
-read-word-requires c κs = search needs
-
-table-address-requires : tie.Need-table-address-requires
-table-address-requires c κs = search needs
-
-program-word-requires : tie.Need-program-word-requires
-program-word-requires c κs = search needs
-
 returns : tie.Need-returns
 unfolding wordsRead memoryWords
 returns c = rw (c .program-word .ensures, c .before .before .table-address .ensures, c .before .before .before .read-word .ensures, ← c .before .before .before .before .before .before .pre, c .before .if1 .taken)
@@ -25,8 +16,8 @@ pub words-read-spec : {M : Type 1} → statement M
 words-read-spec =
     tie.close
     (tie.spec
-    read-word-requires
-    table-address-requires
-    program-word-requires
+    (λ c κs. search needs)
+    (λ c κs. search needs)
+    (λ c κs. search needs)
     returns
     returns-2)

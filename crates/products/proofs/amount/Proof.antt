@@ -21,4 +21,10 @@ unfolding amountOf
 returns-4 c = sym (amount-last _ (c .match .rest .0 .0 .1) (c .match .rest .0 .1) (c .match .rest .1))
 
 pub amount-spec : {M : Type 1} → statement M
-amount-spec = tie.close (tie.spec returns returns-2 returns-3 returns-4)
+amount-spec =
+    tie.close
+    (tie.spec
+    returns
+    returns-2
+    returns-3
+    returns-4)

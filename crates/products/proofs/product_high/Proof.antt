@@ -4,15 +4,14 @@ use borrow.Author.Needs.{needs}
 use Rattle.products.proofs.product_high.Statement.{statement}
 use Rattle.products.proofs.product_high.Tie as tie
 
-shift-product-requires : tie.Need-shift-product-requires
-shift-product-requires c κs = search needs
-
-high-half-requires : tie.Need-high-half-requires
-high-half-requires c κs = search needs
-
 returns : tie.Need-returns
 unfolding productHigh
 returns c = c .high-half .ensures ∙ rw (c .before .shift-product .ensures)
 
 pub product-high-spec : {M : Type 1} → statement M
-product-high-spec = tie.close (tie.spec shift-product-requires high-half-requires returns)
+product-high-spec =
+    tie.close
+    (tie.spec
+    (λ c κs. search needs)
+    (λ c κs. search needs)
+    returns)

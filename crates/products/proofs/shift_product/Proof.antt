@@ -5,9 +5,6 @@ use borrow.Author.Needs.{needs}
 use Rattle.products.proofs.shift_product.Statement.{statement}
 use Rattle.products.proofs.shift_product.Tie as tie
 
-amount-requires : tie.Need-amount-requires
-amount-requires c κs = search needs
-
 scale-requires : tie.Need-scale-requires
 scale-requires c κs = omega (arith, c .amount .ensures, amount-le (c .before .args .pm))
 
@@ -15,4 +12,9 @@ returns : tie.Need-returns
 returns c = c .scale .ensures ∙ rw (c .before .amount .ensures) (scaled-is (c .before .before .args .p) (c .before .before .args .pm))
 
 pub shift-product-spec : {M : Type 1} → statement M
-shift-product-spec = tie.close (tie.spec amount-requires scale-requires returns)
+shift-product-spec =
+    tie.close
+    (tie.spec
+    (λ c κs. search needs)
+    scale-requires
+    returns)

@@ -3,15 +3,6 @@ use borrow.Author.Needs.{needs}
 use Rattle.refusals.proofs.is_sent.Statement.{statement}
 use Rattle.refusals.proofs.is_sent.Tie as tie
 
-enum-told : tie.Need-enum-told
-enum-told c = search needs
-
-enum-told-2 : tie.Need-enum-told-2
-enum-told-2 c = search needs
-
-enum-told-3 : tie.Need-enum-told-3
-enum-told-3 c = search needs
-
 returns : tie.Need-returns
 unfolding sends
 returns c = rw (c .enum-told .given .1)
@@ -25,4 +16,12 @@ unfolding sends
 returns-3 c = rw (c .enum-told3 .given .1)
 
 pub is-sent-spec : {M : Type 1} → statement M
-is-sent-spec = tie.close (tie.spec enum-told enum-told-2 enum-told-3 returns returns-2 returns-3)
+is-sent-spec =
+    tie.close
+    (tie.spec
+    (λ c. search needs)
+    (λ c. search needs)
+    (λ c. search needs)
+    returns
+    returns-2
+    returns-3)

@@ -3,15 +3,6 @@ use borrow.Author.Needs.{needs}
 use Rattle.refusals.proofs.is_wrong_port.Statement.{statement}
 use Rattle.refusals.proofs.is_wrong_port.Tie as tie
 
-enum-told : tie.Need-enum-told
-enum-told c = search needs
-
-enum-known-port : tie.Need-enum-known-port
-enum-known-port c = search needs
-
-enum-known-port-2 : tie.Need-enum-known-port-2
-enum-known-port-2 c = search needs
-
 returns : tie.Need-returns
 unfolding wrongPort
 returns c = rw (c .enum-told .given .1)
@@ -26,4 +17,11 @@ returns-3 c = rw (c .before .port2 .given .1)
 
 pub is-wrong-port-spec : {M : Type 1} → statement M
 is-wrong-port-spec =
-    tie.close (tie.spec enum-told enum-known-port enum-known-port-2 returns returns-2 returns-3)
+    tie.close
+    (tie.spec
+    (λ c. search needs)
+    (λ c. search needs)
+    (λ c. search needs)
+    returns
+    returns-2
+    returns-3)

@@ -5,12 +5,6 @@ use borrow.Author.Needs.{needs}
 use Rattle.refusals.proofs.operand_refusal.Statement.{statement}
 use Rattle.refusals.proofs.operand_refusal.Tie as tie
 
-is-accessed-requires : tie.Need-is-accessed-requires
-is-accessed-requires c κs = search needs
-
-is-wrong-port-requires : tie.Need-is-wrong-port-requires
-is-wrong-port-requires c κs = search needs
-
 returns : tie.Need-returns
 unfolding firstGiven operandRows addressAbove dataAbsent
 returns c = rw (← c .before .is-wrong-port .ensures, c .if1 .taken)
@@ -18,9 +12,6 @@ returns c = rw (← c .before .is-wrong-port .ensures, c .if1 .taken)
 returns-2 : tie.Need-returns-2
 unfolding firstGiven operandRows addressAbove dataAbsent
 returns-2 c = rw (← c .before .before .before .is-wrong-port .ensures, ← c .before .before .before .before .is-accessed .ensures, c .before .before .if1 .left, c .before .if2 .taken, lt-ltb _ _ (c .if3 .taken))
-
-is-present-requires : tie.Need-is-present-requires
-is-present-requires c κs = search needs
 
 returns-3 : tie.Need-returns-3
 unfolding firstGiven operandRows addressAbove dataAbsent
@@ -38,11 +29,11 @@ pub operand-refusal-spec : {M : Type 1} → statement M
 operand-refusal-spec =
     tie.close
     (tie.spec
-    is-accessed-requires
-    is-wrong-port-requires
+    (λ c κs. search needs)
+    (λ c κs. search needs)
     returns
     returns-2
-    is-present-requires
+    (λ c κs. search needs)
     returns-3
     returns-4
     returns-5)

@@ -4,15 +4,6 @@ use borrow.Author.Needs.{needs}
 use Rattle.refusals.proofs.pass_refusal.Statement.{statement}
 use Rattle.refusals.proofs.pass_refusal.Tie as tie
 
-operand-refusal-requires : tie.Need-operand-refusal-requires
-operand-refusal-requires c κs = search needs
-
-is-done-requires : tie.Need-is-done-requires
-is-done-requires c κs = search needs
-
-rest-refusal-requires : tie.Need-rest-refusal-requires
-rest-refusal-requires c κs = search needs
-
 returns : tie.Need-returns
 unfolding operandRows
 returns c = rw (pass-first, ← c .before .before .before .operand-refusal .ensures, ← c .before .before .is-done .ensures, c .before .if1 .taken, c .rest-refusal .ensures)
@@ -24,4 +15,9 @@ returns-2 c = rw (pass-first, ← c .before .before .operand-refusal .ensures, �
 pub pass-refusal-spec : {M : Type 1} → statement M
 pass-refusal-spec =
     tie.close
-    (tie.spec operand-refusal-requires is-done-requires rest-refusal-requires returns returns-2)
+    (tie.spec
+    (λ c κs. search needs)
+    (λ c κs. search needs)
+    (λ c κs. search needs)
+    returns
+    returns-2)

@@ -4,21 +4,9 @@ use borrow.Author.Needs.{needs}
 use Rattle.refusals.proofs.rest_refusal.Statement.{statement}
 use Rattle.refusals.proofs.rest_refusal.Tie as tie
 
-table-address-requires : tie.Need-table-address-requires
-table-address-requires c κs = search needs
-
-is-program-absent-requires : tie.Need-is-program-absent-requires
-is-program-absent-requires c κs = search needs
-
 returns : tie.Need-returns
 unfolding firstGiven restRows tableAbsent outputFull
 returns c = rw (← c .before .before .table-address .ensures, ← c .before .is-program-absent .ensures, c .if1 .taken)
-
-is-sent-requires : tie.Need-is-sent-requires
-is-sent-requires c κs = search needs
-
-is-output-full-requires : tie.Need-is-output-full-requires
-is-output-full-requires c κs = search needs
 
 returns-2 : tie.Need-returns-2
 unfolding firstGiven restRows tableAbsent outputFull
@@ -32,10 +20,10 @@ pub rest-refusal-spec : {M : Type 1} → statement M
 rest-refusal-spec =
     tie.close
     (tie.spec
-    table-address-requires
-    is-program-absent-requires
+    (λ c κs. search needs)
+    (λ c κs. search needs)
     returns
-    is-sent-requires
-    is-output-full-requires
+    (λ c κs. search needs)
+    (λ c κs. search needs)
     returns-2
     returns-3)

@@ -3,15 +3,14 @@ use borrow.Author.Needs.{needs}
 use Rattle.regions.proofs.data_present.Statement.{statement}
 use Rattle.regions.proofs.data_present.Tie as tie
 
-data-region-requires : tie.Need-data-region-requires
-data-region-requires c κs = search needs
-
-region-present-requires : tie.Need-region-present-requires
-region-present-requires c κs = search needs
-
 returns : tie.Need-returns
 unfolding dataPresent
 returns c = rw (c .region-present .ensures, c .before .data-region .ensures)
 
 pub data-present-spec : {M : Type 1} → statement M
-data-present-spec = tie.close (tie.spec data-region-requires region-present-requires returns)
+data-present-spec =
+    tie.close
+    (tie.spec
+    (λ c κs. search needs)
+    (λ c κs. search needs)
+    returns)

@@ -23,4 +23,11 @@ unfolding dataRegion
 returns-5 c = simp (c .before .before .before .if1 .left, c .before .before .if2 .left, c .before .if3 .left, c .if4 .left)
 
 pub data-region-spec : {M : Type 1} → statement M
-data-region-spec = tie.close (tie.spec returns returns-2 returns-3 returns-4 returns-5)
+data-region-spec =
+    tie.close
+    (tie.spec
+    returns
+    returns-2
+    returns-3
+    returns-4
+    returns-5)

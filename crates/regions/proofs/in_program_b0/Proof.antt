@@ -10,4 +10,7 @@ unfolding inProgramB0
 returns c = simp (le-leb (c .args .address) 0xFFFF (omega arith), and-true)
 
 pub in-program-b0-spec : {M : Type 1} → statement M
-in-program-b0-spec = tie.close (tie.spec returns)
+in-program-b0-spec =
+    tie.close
+    (tie.spec
+    returns)

@@ -8,4 +8,7 @@ unfolding inRom
 returns c = refl
 
 pub in-rom-spec : {M : Type 1} → statement M
-in-rom-spec = tie.close (tie.spec returns)
+in-rom-spec =
+    tie.close
+    (tie.spec
+    returns)

@@ -3,15 +3,14 @@ use borrow.Author.Needs.{needs}
 use Rattle.regions.proofs.on_chip.Statement.{statement}
 use Rattle.regions.proofs.on_chip.Tie as tie
 
-data-region-requires : tie.Need-data-region-requires
-data-region-requires c κs = search needs
-
-region-on-chip-requires : tie.Need-region-on-chip-requires
-region-on-chip-requires c κs = search needs
-
 returns : tie.Need-returns
 unfolding onChip
 returns c = rw (c .region-on-chip .ensures, c .before .data-region .ensures)
 
 pub on-chip-spec : {M : Type 1} → statement M
-on-chip-spec = tie.close (tie.spec data-region-requires region-on-chip-requires returns)
+on-chip-spec =
+    tie.close
+    (tie.spec
+    (λ c κs. search needs)
+    (λ c κs. search needs)
+    returns)

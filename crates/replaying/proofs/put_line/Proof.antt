@@ -5,27 +5,12 @@ use borrow.Author.Needs.{needs}
 use Rattle.replaying.proofs.put_line.Statement.{statement}
 use Rattle.replaying.proofs.put_line.Tie as tie
 
-read-answer-requires : tie.Need-read-answer-requires
-read-answer-requires c κs = search needs
-
-is-done-requires : tie.Need-is-done-requires
-is-done-requires c κs = search needs
-
 replay-accepted-requires : tie.Need-replay-accepted-requires
 replay-accepted-requires c κs = told (c .before .before .before .read-answer .ensures) (c .before .before .is-done .ensures) (c .before .if1 .taken)
-
-refused-line-requires : tie.Need-refused-line-requires
-refused-line-requires c κs = search needs
-
-same-length : tie.Need-same-length
-same-length c = search needs
 
 returns : tie.Need-returns
 returns c =
     placed-whole _ _ (λ i. omega (arith, c .before .before .before .before .before .before .before .before .shared-slice-known .given i .fits)) (c .before .before .before .before .before .before .before .before .before .pre) (c .before .before .replay-accepted .ensures)
-
-same-length-2 : tie.Need-same-length-2
-same-length-2 c = search needs
 
 returns-2 : tie.Need-returns-2
 returns-2 c =
@@ -36,11 +21,11 @@ pub put-line-spec : {M : Type 1} → statement M
 put-line-spec =
     tie.close
     (tie.spec
-    read-answer-requires
-    is-done-requires
+    (λ c κs. search needs)
+    (λ c κs. search needs)
     replay-accepted-requires
-    refused-line-requires
-    same-length
+    (λ c κs. search needs)
+    (λ c. search needs)
     returns
-    same-length-2
+    (λ c. search needs)
     returns-2)

@@ -15,23 +15,8 @@ abbrev μ-loop : tie.MeasureT-loop
 loop-holds : tie.Need-loop-holds Inv-loop μ-loop
 loop-holds c = cleared-none _ (c .pre)
 
-mul-memory : tie.Need-mul-memory Inv-loop μ-loop
-mul-memory c = search needs
-
-slice-write-memory : tie.Need-slice-write-memory Inv-loop μ-loop
-slice-write-memory c = search needs
-
-add-address : tie.Need-add-address Inv-loop μ-loop
-add-address c = search needs
-
-loop-less : tie.Need-loop-less Inv-loop μ-loop
-loop-less c = search needs
-
 loop-again : tie.Need-loop-again Inv-loop μ-loop
 loop-again c = cleared-more (c .before .loop .inv) (omega (arith, c .loop-test .taken))
-
-same-length : tie.Need-same-length Inv-loop μ-loop
-same-length c = search needs
 
 returns : tie.Need-returns Inv-loop μ-loop
 returns c = cleared-all (c .before .loop .inv) (omega (arith, c .loop-test .left))
@@ -43,10 +28,10 @@ clear-spec =
     Inv-loop
     μ-loop
     loop-holds
-    mul-memory
-    slice-write-memory
-    add-address
-    loop-less
+    (λ c. search needs)
+    (λ c. search needs)
+    (λ c. search needs)
+    (λ c. search needs)
     loop-again
-    same-length
+    (λ c. search needs)
     returns)

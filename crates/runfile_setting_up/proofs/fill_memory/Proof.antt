@@ -3,17 +3,14 @@ use borrow.Author.Needs.{needs}
 use Rattle.runfile_setting_up.proofs.fill_memory.Statement.{statement}
 use Rattle.runfile_setting_up.proofs.fill_memory.Tie as tie
 
-clear-requires : tie.Need-clear-requires
-clear-requires c κs = search needs
-
-load-words-requires : tie.Need-load-words-requires
-load-words-requires c κs = search needs
-
-same-length : tie.Need-same-length
-same-length c = search needs
-
 returns : tie.Need-returns
 returns c = memory-filled _ _ _ _ _ _ (c .before .before .before .before .before .before .before .before .before .before .pre .1) (c .before .before .before .before .before .before .clear .ensures) (c .before .before .load-words .ensures)
 
 pub fill-memory-spec : {M : Type 1} → statement M
-fill-memory-spec = tie.close (tie.spec clear-requires load-words-requires same-length returns)
+fill-memory-spec =
+    tie.close
+    (tie.spec
+    (λ c κs. search needs)
+    (λ c κs. search needs)
+    (λ c. search needs)
+    returns)

@@ -4,9 +4,6 @@ use borrow.Author.Needs.{needs}
 use Rattle.runfile_setting_up.proofs.load_file.Statement.{statement}
 use Rattle.runfile_setting_up.proofs.load_file.Tie as tie
 
-numbers-of-requires : tie.Need-numbers-of-requires
-numbers-of-requires c κs = search needs
-
 fill-memory-requires : tie.Need-fill-memory-requires
 fill-memory-requires c κs = let d = c .before .before .before .before .before .before .pre in let e = c .before .numbers-of .ensures in rw e (omega arith, omega arith, omega arith)
 
@@ -16,15 +13,6 @@ fill-memory-requires-2 c κs = let d = c .before .before .before .before .before
 load-words-requires : tie.Need-load-words-requires
 load-words-requires c κs = let d = c .before .before .before .before .before .before .before .before .before .before .before .before .before .before .pre in let e = c .before .before .before .before .before .before .before .before .before .numbers-of .ensures in rw e (omega arith, omega arith)
 
-same-length : tie.Need-same-length
-same-length c = search needs
-
-same-length-2 : tie.Need-same-length-2
-same-length-2 c = search needs
-
-same-length-3 : tie.Need-same-length-3
-same-length-3 c = search needs
-
 returns : tie.Need-returns
 returns c = sections-stored _ _ _ _ _ _ (c .before .before .before .before .before .before .before .before .before .before .before .before .before .before .before .before .before .pre .input-size) (c .before .before .before .before .before .before .before .before .before .before .before .before .numbers-of .ensures) (c .before .before .before .before .before .before .before .before .before .before .fill-memory .ensures) (c .before .before .before .before .before .before .fill-memory2 .ensures) (c .before .before .load-words .ensures)
 
@@ -32,11 +20,11 @@ pub load-file-spec : {M : Type 1} → statement M
 load-file-spec =
     tie.close
     (tie.spec
-    numbers-of-requires
+    (λ c κs. search needs)
     fill-memory-requires
     fill-memory-requires-2
     load-words-requires
-    same-length
-    same-length-2
-    same-length-3
+    (λ c. search needs)
+    (λ c. search needs)
+    (λ c. search needs)
     returns)

@@ -7,35 +7,11 @@ use borrow.Author.Needs.{needs}
 use Rattle.runfile_setting_up.proofs.set_up.Statement.{statement}
 use Rattle.runfile_setting_up.proofs.set_up.Tie as tie
 
-set-up-answer-requires : tie.Need-set-up-answer-requires
-set-up-answer-requires c κs = search needs
-
-is-done-requires : tie.Need-is-done-requires
-is-done-requires c κs = search needs
-
-same-length : tie.Need-same-length
-same-length c = search needs
-
-same-length-2 : tie.Need-same-length-2
-same-length-2 c = search needs
-
-same-length-3 : tie.Need-same-length-3
-same-length-3 c = search needs
-
 returns : tie.Need-returns
 returns c = (c .before .before .set-up-answer .ensures, rw (set-up-kept _ _ (told (c .before .before .set-up-answer .ensures) (c .before .is-done .ensures) (not-true _ (c .if1 .taken)))) (refl, (refl, refl)))
 
 load-file-requires : tie.Need-load-file-requires
 load-file-requires c κs = set-up-done _ _ (told (c .before .before .before .before .before .set-up-answer .ensures) (c .before .before .before .before .is-done .ensures) (not-false _ (c .before .before .before .if1 .left)))
-
-same-length-4 : tie.Need-same-length-4
-same-length-4 c = search needs
-
-same-length-5 : tie.Need-same-length-5
-same-length-5 c = search needs
-
-same-length-6 : tie.Need-same-length-6
-same-length-6 c = search needs
 
 returns-2 : tie.Need-returns-2
 returns-2 c = (c .before .before .before .before .before .before .before .before .before .before .before .before .set-up-answer .ensures, set-up-stored _ _ (lent _ _ _) (told (c .before .before .before .before .before .before .before .before .before .before .before .before .set-up-answer .ensures) (c .before .before .before .before .before .before .before .before .before .before .before .is-done .ensures) (not-false _ (c .before .before .before .before .before .before .before .before .before .before .if1 .left))) (c .before .before .before .before .before .before .load-file .ensures))
@@ -44,14 +20,14 @@ pub set-up-spec : {M : Type 1} → statement M
 set-up-spec =
     tie.close
     (tie.spec
-    set-up-answer-requires
-    is-done-requires
-    same-length
-    same-length-2
-    same-length-3
+    (λ c κs. search needs)
+    (λ c κs. search needs)
+    (λ c. search needs)
+    (λ c. search needs)
+    (λ c. search needs)
     returns
     load-file-requires
-    same-length-4
-    same-length-5
-    same-length-6
+    (λ c. search needs)
+    (λ c. search needs)
+    (λ c. search needs)
     returns-2)

@@ -6,27 +6,12 @@ use borrow.Author.Needs.{needs}
 use Rattle.runfile_writing.proofs.write_within_limits.Statement.{statement}
 use Rattle.runfile_writing.proofs.write_within_limits.Tie as tie
 
-cast-file-length : tie.Need-cast-file-length
-cast-file-length c = search needs
-
-cast-file-length-2 : tie.Need-cast-file-length-2
-cast-file-length-2 c = search needs
-
-cast-file-length-3 : tie.Need-cast-file-length-3
-cast-file-length-3 c = search needs
-
-file-length-requires : tie.Need-file-length-requires
-file-length-requires c κs = search needs
-
 returns : tie.Need-returns
 unfolding contentsFit
 returns c = write-no-room _ _ (counts-kept _ _ _ (c .before .before .before .before .before .before .pre)) (rw file-length (omega arith))
 
 put-file-requires : tie.Need-put-file-requires
 put-file-requires c κs = (c .before .before .before .before .before .before .before .pre, omega arith)
-
-same-length : tie.Need-same-length
-same-length c = search needs
 
 returns-2 : tie.Need-returns-2
 unfolding contentsFit
@@ -36,11 +21,11 @@ pub write-within-limits-spec : {M : Type 1} → statement M
 write-within-limits-spec =
     tie.close
     (tie.spec
-    cast-file-length
-    cast-file-length-2
-    cast-file-length-3
-    file-length-requires
+    (λ c. search needs)
+    (λ c. search needs)
+    (λ c. search needs)
+    (λ c κs. search needs)
     returns
     put-file-requires
-    same-length
+    (λ c. search needs)
     returns-2)

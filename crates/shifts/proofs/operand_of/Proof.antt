@@ -5,17 +5,8 @@ use borrow.Author.Needs.{needs}
 use Rattle.shifts.proofs.operand_of.Statement.{statement}
 use Rattle.shifts.proofs.operand_of.Tie as tie
 
-sign-extended-requires : tie.Need-sign-extended-requires
-sign-extended-requires c κs = search needs
-
-shift-left-requires : tie.Need-shift-left-requires
-shift-left-requires c κs = search needs
-
 returns : tie.Need-returns
 returns c = c .shift-left .ensures ∙ rw (c .before .sign-extended .ensures) (operand-signed _ _ _ (omega arith) (c .before .before .if1 .taken))
-
-shift-left-requires-2 : tie.Need-shift-left-requires-2
-shift-left-requires-2 c κs = search needs
 
 returns-2 : tie.Need-returns-2
 returns-2 c = c .shift-left2 .ensures ∙ operand-plain _ _ _ (c .before .if1 .left)
@@ -23,4 +14,9 @@ returns-2 c = c .shift-left2 .ensures ∙ operand-plain _ _ _ (c .before .if1 .l
 pub operand-of-spec : {M : Type 1} → statement M
 operand-of-spec =
     tie.close
-    (tie.spec sign-extended-requires shift-left-requires returns shift-left-requires-2 returns-2)
+    (tie.spec
+    (λ c κs. search needs)
+    (λ c κs. search needs)
+    returns
+    (λ c κs. search needs)
+    returns-2)

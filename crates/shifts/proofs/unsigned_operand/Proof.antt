@@ -9,4 +9,7 @@ unfolding unsignedOperand low
 returns c = omega arith
 
 pub unsigned-operand-spec : {M : Type 1} → statement M
-unsigned-operand-spec = tie.close (tie.spec returns)
+unsigned-operand-spec =
+    tie.close
+    (tie.spec
+    returns)

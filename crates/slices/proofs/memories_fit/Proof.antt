@@ -8,4 +8,7 @@ unfolding memoriesFit
 returns c = refl
 
 pub memories-fit-spec : {M : Type 1} → statement M
-memories-fit-spec = tie.close (tie.spec returns)
+memories-fit-spec =
+    tie.close
+    (tie.spec
+    returns)

@@ -8,4 +8,7 @@ unfolding portFits
 returns c = refl
 
 pub port-fits-spec : {M : Type 1} → statement M
-port-fits-spec = tie.close (tie.spec returns)
+port-fits-spec =
+    tie.close
+    (tie.spec
+    returns)

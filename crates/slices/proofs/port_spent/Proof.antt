@@ -8,4 +8,7 @@ unfolding portSpent
 returns c = refl
 
 pub port-spent-spec : {M : Type 1} → statement M
-port-spent-spec = tie.close (tie.spec returns)
+port-spent-spec =
+    tie.close
+    (tie.spec
+    returns)

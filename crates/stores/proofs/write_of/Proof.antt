@@ -6,27 +6,12 @@ use borrow.Author.Needs.{needs}
 use Rattle.stores.proofs.write_of.Statement.{statement}
 use Rattle.stores.proofs.write_of.Tie as tie
 
-enum-told : tie.Need-enum-told
-enum-told c = search needs
-
-enum-known-store : tie.Need-enum-known-store
-enum-known-store c = search needs
-
-enum-known-store-2 : tie.Need-enum-known-store-2
-enum-known-store-2 c = search needs
-
-is-movable-requires : tie.Need-is-movable-requires
-is-movable-requires c κs = search needs
-
 add-t10 : tie.Need-add-t10
 add-t10 c = omega (arith, moves (c .before .before .before .before .before .args .cnf) (c .before .before .before .before .before .args .address) (sym (c .before .is-movable .ensures) ∙ c .if1 .taken) .below)
 
 returns : tie.Need-returns
 unfolding writeOf
 returns c = rw (c .before .before .before .store2 .given .1, ← c .before .is-movable .ensures, c .if1 .taken)
-
-enum-known-store-3 : tie.Need-enum-known-store-3
-enum-known-store-3 c = search needs
 
 returns-2 : tie.Need-returns-2
 unfolding writeOf
@@ -48,13 +33,13 @@ pub write-of-spec : {M : Type 1} → statement M
 write-of-spec =
     tie.close
     (tie.spec
-    enum-told
-    enum-known-store
-    enum-known-store-2
-    is-movable-requires
+    (λ c. search needs)
+    (λ c. search needs)
+    (λ c. search needs)
+    (λ c κs. search needs)
     add-t10
     returns
-    enum-known-store-3
+    (λ c. search needs)
     returns-2
     returns-3
     returns-4

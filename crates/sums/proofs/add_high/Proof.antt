@@ -3,12 +3,6 @@ use borrow.Author.Needs.{needs}
 use Rattle.sums.proofs.add_high.Statement.{statement}
 use Rattle.sums.proofs.add_high.Tie as tie
 
-in-high-half-requires : tie.Need-in-high-half-requires
-in-high-half-requires c κs = search needs
-
-add-requires : tie.Need-add-requires
-add-requires c κs = search needs
-
 returns : tie.Need-returns
 returns c = rw (c .before .before .add .ensures, c .before .before .before .in-high-half .ensures) (add-high-sets _ _ _ _ _ (rw (c .before .before .add .ensures, c .before .before .before .in-high-half .ensures) at (c .if1 .taken)))
 
@@ -16,4 +10,10 @@ returns-2 : tie.Need-returns-2
 returns-2 c = rw (c .before .before .add .ensures, c .before .before .before .in-high-half .ensures) (add-high-keeps _ _ _ _ _ (rw (c .before .before .add .ensures, c .before .before .before .in-high-half .ensures) at (c .if1 .left)))
 
 pub add-high-spec : {M : Type 1} → statement M
-add-high-spec = tie.close (tie.spec in-high-half-requires add-requires returns returns-2)
+add-high-spec =
+    tie.close
+    (tie.spec
+    (λ c κs. search needs)
+    (λ c κs. search needs)
+    returns
+    returns-2)

@@ -20,4 +20,10 @@ unfolding heldAs
 returns-4 c = simp (eq-eqb _ _ (c .before .before .if1 .left), c .before .if2 .left, c .if3 .left)
 
 pub held-word-spec : {M : Type 1} → statement M
-held-word-spec = tie.close (tie.spec returns returns-2 returns-3 returns-4)
+held-word-spec =
+    tie.close
+    (tie.spec
+    returns
+    returns-2
+    returns-3
+    returns-4)

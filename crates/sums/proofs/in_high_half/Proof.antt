@@ -4,12 +4,13 @@ use borrow.Author.Needs.{needs}
 use Rattle.sums.proofs.in_high_half.Statement.{statement}
 use Rattle.sums.proofs.in_high_half.Tie as tie
 
-mul-result : tie.Need-mul-result
-mul-result c = search needs
-
 returns : tie.Need-returns
 unfolding inHighHalf
 returns c = refl
 
 pub in-high-half-spec : {M : Type 1} → statement M
-in-high-half-spec = tie.close (tie.spec mul-result returns)
+in-high-half-spec =
+    tie.close
+    (tie.spec
+    (λ c. search needs)
+    returns)

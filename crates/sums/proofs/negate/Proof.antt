@@ -4,11 +4,12 @@ use borrow.Author.Needs.{needs}
 use Rattle.sums.proofs.negate.Statement.{statement}
 use Rattle.sums.proofs.negate.Tie as tie
 
-subtract-requires : tie.Need-subtract-requires
-subtract-requires c κs = search needs
-
 returns : tie.Need-returns
 returns c = c .subtract .ensures ∙ negated-is _ _ _
 
 pub negate-spec : {M : Type 1} → statement M
-negate-spec = tie.close (tie.spec subtract-requires returns)
+negate-spec =
+    tie.close
+    (tie.spec
+    (λ c κs. search needs)
+    returns)

@@ -3,12 +3,6 @@ use borrow.Author.Needs.{needs}
 use Rattle.sums.proofs.subtract_high.Statement.{statement}
 use Rattle.sums.proofs.subtract_high.Tie as tie
 
-in-high-half-requires : tie.Need-in-high-half-requires
-in-high-half-requires c κs = search needs
-
-subtract-requires : tie.Need-subtract-requires
-subtract-requires c κs = search needs
-
 returns : tie.Need-returns
 returns c = rw (c .before .before .subtract .ensures, c .before .before .before .in-high-half .ensures) (subtract-high-resets _ _ _ _ _ (rw (c .before .before .subtract .ensures, c .before .before .before .in-high-half .ensures) at (c .if1 .taken)))
 
@@ -16,4 +10,10 @@ returns-2 : tie.Need-returns-2
 returns-2 c = rw (c .before .before .subtract .ensures, c .before .before .before .in-high-half .ensures) (subtract-high-keeps _ _ _ _ _ (rw (c .before .before .subtract .ensures, c .before .before .before .in-high-half .ensures) at (c .if1 .left)))
 
 pub subtract-high-spec : {M : Type 1} → statement M
-subtract-high-spec = tie.close (tie.spec in-high-half-requires subtract-requires returns returns-2)
+subtract-high-spec =
+    tie.close
+    (tie.spec
+    (λ c κs. search needs)
+    (λ c κs. search needs)
+    returns
+    returns-2)

@@ -4,24 +4,6 @@ use borrow.Author.Needs.{needs}
 use Rattle.transfers.proofs.rule.Statement.{statement}
 use Rattle.transfers.proofs.rule.Tie as tie
 
-enum-told : tie.Need-enum-told
-enum-told c = search needs
-
-dmov-requires : tie.Need-dmov-requires
-dmov-requires c κs = search needs
-
-enum-told-2 : tie.Need-enum-told-2
-enum-told-2 c = search needs
-
-input-requires : tie.Need-input-requires
-input-requires c κs = search needs
-
-enum-told-3 : tie.Need-enum-told-3
-enum-told-3 c = search needs
-
-output-requires : tie.Need-output-requires
-output-requires c κs = search needs
-
 returns : tie.Need-returns
 unfolding transfersRule
 returns c = rw (c .dmov .ensures, c .before .enum-told .given .1)
@@ -38,12 +20,12 @@ pub rule-spec : {M : Type 1} → statement M
 rule-spec =
     tie.close
     (tie.spec
-    enum-told
-    dmov-requires
-    enum-told-2
-    input-requires
-    enum-told-3
-    output-requires
+    (λ c. search needs)
+    (λ c κs. search needs)
+    (λ c. search needs)
+    (λ c κs. search needs)
+    (λ c. search needs)
+    (λ c κs. search needs)
     returns
     returns-2
     returns-3)

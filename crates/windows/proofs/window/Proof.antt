@@ -5,23 +5,11 @@ use borrow.Author.Needs.{needs}
 use Rattle.windows.proofs.window.Statement.{statement}
 use Rattle.windows.proofs.window.Tie as tie
 
-window-answer-requires : tie.Need-window-answer-requires
-window-answer-requires c κs = search needs
-
-is-done-requires : tie.Need-is-done-requires
-is-done-requires c κs = search needs
-
-region-window-requires : tie.Need-region-window-requires
-region-window-requires c κs = search needs
-
 returns : tie.Need-returns
 unfolding windowShown windowShownStart
 returns c =
     let done = sym (c .before .before .is-done .ensures ∙ ap isDone (c .before .before .before .window-answer .ensures)) ∙ c .before .if1 .taken in
     (rw (c .region-window .ensures .0) (simp done), rw (c .region-window .ensures .1) (simp done))
-
-slice-aggregate-result : tie.Need-slice-aggregate-result
-slice-aggregate-result c = search needs
 
 returns-2 : tie.Need-returns-2
 unfolding windowShown windowShownStart
@@ -33,9 +21,9 @@ pub window-spec : {M : Type 1} → statement M
 window-spec =
     tie.close
     (tie.spec
-    window-answer-requires
-    is-done-requires
-    region-window-requires
+    (λ c κs. search needs)
+    (λ c κs. search needs)
+    (λ c κs. search needs)
     returns
-    slice-aggregate-result
+    (λ c. search needs)
     returns-2)

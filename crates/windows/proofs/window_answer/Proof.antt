@@ -5,22 +5,13 @@ use borrow.Author.Needs.{needs}
 use Rattle.windows.proofs.window_answer.Statement.{statement}
 use Rattle.windows.proofs.window_answer.Tie as tie
 
-in-range-requires : tie.Need-in-range-requires
-in-range-requires c κs = search needs
-
 returns : tie.Need-returns
 unfolding windowAnswer
 returns c = simp (sym (c .before .in-range .ensures) ∙ not-true _ (c .if1 .taken))
 
-memories-fit-requires : tie.Need-memories-fit-requires
-memories-fit-requires c κs = search needs
-
 returns-2 : tie.Need-returns-2
 unfolding windowAnswer
 returns-2 c = simp (sym (c .before .before .before .in-range .ensures) ∙ not-false _ (c .before .before .if1 .left), sym (c .before .memories-fit .ensures) ∙ not-true _ (c .if2 .taken))
-
-program-present-requires : tie.Need-program-present-requires
-program-present-requires c κs = search needs
 
 returns-3 : tie.Need-returns-3
 unfolding windowAnswer
@@ -34,10 +25,10 @@ pub window-answer-spec : {M : Type 1} → statement M
 window-answer-spec =
     tie.close
     (tie.spec
-    in-range-requires
+    (λ c κs. search needs)
     returns
-    memories-fit-requires
+    (λ c κs. search needs)
     returns-2
-    program-present-requires
+    (λ c κs. search needs)
     returns-3
     returns-4)

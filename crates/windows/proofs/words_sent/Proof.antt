@@ -7,24 +7,12 @@ use borrow.Author.Needs.{needs}
 use Rattle.windows.proofs.words_sent.Statement.{statement}
 use Rattle.windows.proofs.words_sent.Tie as tie
 
-words-sent-answer-requires : tie.Need-words-sent-answer-requires
-words-sent-answer-requires c κs = search needs
-
-is-done-requires : tie.Need-is-done-requires
-is-done-requires c κs = search needs
-
-cast-sent : tie.Need-cast-sent
-cast-sent c = search needs
-
 slice-aggregate-result : tie.Need-slice-aggregate-result
 slice-aggregate-result c = sym (length-take-le _ _ (sent-done _ _ (sym (c .before .before .before .is-done .ensures ∙ ap isDone (c .before .before .before .before .words-sent-answer .ensures)) ∙ c .before .before .if1 .taken) .port .not-past))
 
 returns : tie.Need-returns
 unfolding wordsSent
 returns c = (simp (sym (c .before .before .before .is-done .ensures ∙ ap isDone (c .before .before .before .before .words-sent-answer .ensures)) ∙ c .before .before .if1 .taken), refl)
-
-slice-aggregate-result-2 : tie.Need-slice-aggregate-result-2
-slice-aggregate-result-2 c = search needs
 
 returns-2 : tie.Need-returns-2
 unfolding wordsSent
@@ -34,10 +22,10 @@ pub words-sent-spec : {M : Type 1} → statement M
 words-sent-spec =
     tie.close
     (tie.spec
-    words-sent-answer-requires
-    is-done-requires
-    cast-sent
+    (λ c κs. search needs)
+    (λ c κs. search needs)
+    (λ c. search needs)
     slice-aggregate-result
     returns
-    slice-aggregate-result-2
+    (λ c. search needs)
     returns-2)

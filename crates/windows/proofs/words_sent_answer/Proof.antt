@@ -5,15 +5,9 @@ use borrow.Author.Needs.{needs}
 use Rattle.windows.proofs.words_sent_answer.Statement.{statement}
 use Rattle.windows.proofs.words_sent_answer.Tie as tie
 
-in-range-requires : tie.Need-in-range-requires
-in-range-requires c κs = search needs
-
 returns : tie.Need-returns
 unfolding wordsSentAnswer
 returns c = simp (sym (c .before .in-range .ensures) ∙ not-true _ (c .if1 .taken))
-
-port-fits-requires : tie.Need-port-fits-requires
-port-fits-requires c κs = search needs
 
 returns-2 : tie.Need-returns-2
 unfolding wordsSentAnswer
@@ -25,4 +19,10 @@ returns-3 c = simp (sym (c .before .before .before .in-range .ensures) ∙ not-f
 
 pub words-sent-answer-spec : {M : Type 1} → statement M
 words-sent-answer-spec =
-    tie.close (tie.spec in-range-requires returns port-fits-requires returns-2 returns-3)
+    tie.close
+    (tie.spec
+    (λ c κs. search needs)
+    returns
+    (λ c κs. search needs)
+    returns-2
+    returns-3)

@@ -10,9 +10,6 @@ returns : tie.Need-returns
 unfolding cellsAnswer
 returns c = simp (ne-eqb _ cellCount (c .if1 .taken))
 
-within-limits-requires : tie.Need-within-limits-requires
-within-limits-requires c κs = search needs
-
 returns-2 : tie.Need-returns-2
 unfolding cellsAnswer
 returns-2 c = simp (eq-eqb _ cellCount (c .before .before .if1 .left), sym (c .before .within-limits .ensures) ∙ not-true _ (c .if2 .taken))
@@ -22,4 +19,10 @@ unfolding cellsAnswer
 returns-3 c = simp (eq-eqb _ cellCount (c .before .before .if1 .left), sym (c .before .within-limits .ensures) ∙ not-false _ (c .if2 .left))
 
 pub cells-answer-spec : {M : Type 1} → statement M
-cells-answer-spec = tie.close (tie.spec returns within-limits-requires returns-2 returns-3)
+cells-answer-spec =
+    tie.close
+    (tie.spec
+    returns
+    (λ c κs. search needs)
+    returns-2
+    returns-3)

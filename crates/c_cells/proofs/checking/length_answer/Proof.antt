@@ -13,4 +13,8 @@ unfolding lengthAnswer
 returns-2 c = simp (ne-eqb _ cellCount (c .if1 .left))
 
 pub length-answer-spec : {M : Type 1} → statement M
-length-answer-spec = tie.close (tie.spec returns returns-2)
+length-answer-spec =
+    tie.close
+    (tie.spec
+    returns
+    returns-2)

@@ -18,24 +18,6 @@ loop-holds : tie.Need-loop-holds Inv-loop μ-loop
 unfolding withinLimits
 loop-holds c = record { reached = omega arith; so-far = refl }
 
-mul-kept : tie.Need-mul-kept Inv-loop μ-loop
-mul-kept c = search needs
-
-shared-slice-read-kept : tie.Need-shared-slice-read-kept Inv-loop μ-loop
-shared-slice-read-kept c = search needs
-
-mul-kept-2 : tie.Need-mul-kept-2 Inv-loop μ-loop
-mul-kept-2 c = search needs
-
-array-read-kept : tie.Need-array-read-kept Inv-loop μ-loop
-array-read-kept c = search needs
-
-add-i : tie.Need-add-i Inv-loop μ-loop
-add-i c = search needs
-
-loop-less : tie.Need-loop-less Inv-loop μ-loop
-loop-less c = search needs
-
 loop-again : tie.Need-loop-again Inv-loop μ-loop
 unfolding limits
 loop-again c = kept-more (c .before .before .loop .inv) (c .before .loop-test .taken)
@@ -50,11 +32,11 @@ within-limits-spec =
     Inv-loop
     μ-loop
     loop-holds
-    mul-kept
-    shared-slice-read-kept
-    mul-kept-2
-    array-read-kept
-    add-i
-    loop-less
+    (λ c. search needs)
+    (λ c. search needs)
+    (λ c. search needs)
+    (λ c. search needs)
+    (λ c. search needs)
+    (λ c. search needs)
     loop-again
     returns)

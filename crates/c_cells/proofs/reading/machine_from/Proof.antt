@@ -3,66 +3,6 @@ use borrow.Author.Needs.{needs}
 use Rattle.c_cells.proofs.reading.machine_from.Statement.{statement}
 use Rattle.c_cells.proofs.reading.machine_from.Tie as tie
 
-eight-at-requires : tie.Need-eight-at-requires
-eight-at-requires c κs = search needs
-
-long-at-requires : tie.Need-long-at-requires
-long-at-requires c κs = search needs
-
-long-at-requires-2 : tie.Need-long-at-requires-2
-long-at-requires-2 c κs = search needs
-
-word-at-requires : tie.Need-word-at-requires
-word-at-requires c κs = search needs
-
-word-at-requires-2 : tie.Need-word-at-requires-2
-word-at-requires-2 c κs = search needs
-
-word-at-requires-3 : tie.Need-word-at-requires-3
-word-at-requires-3 c κs = search needs
-
-eight-at-requires-2 : tie.Need-eight-at-requires-2
-eight-at-requires-2 c κs = search needs
-
-small-at-requires : tie.Need-small-at-requires
-small-at-requires c κs = search needs
-
-small-at-requires-2 : tie.Need-small-at-requires-2
-small-at-requires-2 c κs = search needs
-
-word-at-requires-4 : tie.Need-word-at-requires-4
-word-at-requires-4 c κs = search needs
-
-small-at-requires-3 : tie.Need-small-at-requires-3
-small-at-requires-3 c κs = search needs
-
-small-at-requires-4 : tie.Need-small-at-requires-4
-small-at-requires-4 c κs = search needs
-
-small-at-requires-5 : tie.Need-small-at-requires-5
-small-at-requires-5 c κs = search needs
-
-small-at-requires-6 : tie.Need-small-at-requires-6
-small-at-requires-6 c κs = search needs
-
-small-at-requires-7 : tie.Need-small-at-requires-7
-small-at-requires-7 c κs = search needs
-
-small-at-requires-8 : tie.Need-small-at-requires-8
-small-at-requires-8 c κs = search needs
-
-word-at-requires-5 : tie.Need-word-at-requires-5
-word-at-requires-5 c κs = search needs
-
-word-at-requires-6 : tie.Need-word-at-requires-6
-word-at-requires-6 c κs = search needs
-
-word-at-requires-7 : tie.Need-word-at-requires-7
-word-at-requires-7 c κs = search needs
-
-word-at-requires-8 : tie.Need-word-at-requires-8
-word-at-requires-8 c κs = search needs
-
 -- each cell where it was read, the last first
 returns : tie.Need-returns
 unfolding machineFrom
@@ -114,24 +54,24 @@ pub machine-from-spec : {M : Type 1} → statement M
 machine-from-spec =
     tie.close
     (tie.spec
-    eight-at-requires
-    long-at-requires
-    long-at-requires-2
-    word-at-requires
-    word-at-requires-2
-    word-at-requires-3
-    eight-at-requires-2
-    small-at-requires
-    small-at-requires-2
-    word-at-requires-4
-    small-at-requires-3
-    small-at-requires-4
-    small-at-requires-5
-    small-at-requires-6
-    small-at-requires-7
-    small-at-requires-8
-    word-at-requires-5
-    word-at-requires-6
-    word-at-requires-7
-    word-at-requires-8
+    (λ c κs. search needs)
+    (λ c κs. search needs)
+    (λ c κs. search needs)
+    (λ c κs. search needs)
+    (λ c κs. search needs)
+    (λ c κs. search needs)
+    (λ c κs. search needs)
+    (λ c κs. search needs)
+    (λ c κs. search needs)
+    (λ c κs. search needs)
+    (λ c κs. search needs)
+    (λ c κs. search needs)
+    (λ c κs. search needs)
+    (λ c κs. search needs)
+    (λ c κs. search needs)
+    (λ c κs. search needs)
+    (λ c κs. search needs)
+    (λ c κs. search needs)
+    (λ c κs. search needs)
+    (λ c κs. search needs)
     returns)

@@ -9,15 +9,15 @@ returns : tie.Need-returns
 unfolding cellsAfter
 returns c = simp (ne-eqb _ cellCount (c .if1 .taken))
 
-put-all-requires : tie.Need-put-all-requires
-put-all-requires c κs = search needs
-
-same-length : tie.Need-same-length
-same-length c = search needs
-
 returns-2 : tie.Need-returns-2
 unfolding cellsAfter
 returns-2 c = simp (eq-eqb _ cellCount (c .before .before .before .before .if1 .left)) (c .before .before .put-all .ensures)
 
 pub put-cells-spec : {M : Type 1} → statement M
-put-cells-spec = tie.close (tie.spec returns put-all-requires same-length returns-2)
+put-cells-spec =
+    tie.close
+    (tie.spec
+    returns
+    (λ c κs. search needs)
+    (λ c. search needs)
+    returns-2)

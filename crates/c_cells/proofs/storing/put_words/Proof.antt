@@ -15,29 +15,11 @@ abbrev μ-loop : tie.MeasureT-loop
 loop-holds : tie.Need-loop-holds Inv-loop μ-loop
 loop-holds c = put-none _ _ _
 
-mul-cells : tie.Need-mul-cells Inv-loop μ-loop
-mul-cells c = search needs
-
-shared-slice-read-cells : tie.Need-shared-slice-read-cells Inv-loop μ-loop
-shared-slice-read-cells c = search needs
-
 cast-cells : tie.Need-cast-cells Inv-loop μ-loop
 cast-cells c = omega (arith, c .shared-slice-known .given (c .before .before .loop .k))
 
-add-cells : tie.Need-add-cells Inv-loop μ-loop
-add-cells c = search needs
-
-mul-cells-2 : tie.Need-mul-cells-2 Inv-loop μ-loop
-mul-cells-2 c = search needs
-
 slice-write-cells : tie.Need-slice-write-cells Inv-loop μ-loop
 slice-write-cells c = omega (arith, put-length (c .before .before .loop .inv))
-
-add-k : tie.Need-add-k Inv-loop μ-loop
-add-k c = search needs
-
-loop-less : tie.Need-loop-less Inv-loop μ-loop
-loop-less c = search needs
 
 loop-again : tie.Need-loop-again Inv-loop μ-loop
 loop-again c = put-more (c .before .before .loop .inv) (c .before .loop-test .taken)
@@ -55,14 +37,14 @@ put-words-spec =
     Inv-loop
     μ-loop
     loop-holds
-    mul-cells
-    shared-slice-read-cells
+    (λ c. search needs)
+    (λ c. search needs)
     cast-cells
-    add-cells
-    mul-cells-2
+    (λ c. search needs)
+    (λ c. search needs)
     slice-write-cells
-    add-k
-    loop-less
+    (λ c. search needs)
+    (λ c. search needs)
     loop-again
     same-length
     returns)

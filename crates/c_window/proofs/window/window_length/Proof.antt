@@ -4,11 +4,12 @@ use borrow.Author.Needs.{needs}
 use Rattle.c_window.proofs.window.window_length.Statement.{statement}
 use Rattle.c_window.proofs.window.window_length.Tie as tie
 
-window-requires : tie.Need-window-requires
-window-requires c κs = search needs
-
 returns : tie.Need-returns
 returns c = ap length (c .window .ensures .0)
 
 pub window-length-spec : {M : Type 1} → statement M
-window-length-spec = tie.close (tie.spec window-requires returns)
+window-length-spec =
+    tie.close
+    (tie.spec
+    (λ c κs. search needs)
+    returns)

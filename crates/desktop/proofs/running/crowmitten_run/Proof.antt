@@ -6,35 +6,8 @@ use borrow.Author.Needs.{needs}
 use Rattle.desktop.proofs.running.crowmitten_run.Statement.{statement}
 use Rattle.desktop.proofs.running.crowmitten_run.Tie as tie
 
-cells-pass-requires : tie.Need-cells-pass-requires
-cells-pass-requires c κs = search needs
-
-refused-run-requires : tie.Need-refused-run-requires
-refused-run-requires c κs = search needs
-
-same-length : tie.Need-same-length
-same-length c = search needs
-
 returns : tie.Need-returns
 returns c = run-refused (given (c .before .before .before .before .before .before .before .before .before .before .before .args .rom .now) (c .before .before .before .before .before .before .before .before .before .before .before .args .input .now)) (c .before .before .before .before .before .before .before .before .before .before .before .args .cells .now) (c .before .before .before .before .before .before .before .before .before .before .before .args .«data» .now) (c .before .before .before .before .before .before .before .before .before .before .before .args .output .now) (sym (c .before .before .before .before .cells-pass .ensures) ∙ not-true _ (c .before .before .before .if1 .taken)) (c .refused-run .ensures .0) (c .before .before .before .before .before .before .before .before .before .before .before .args .budget) (c .refused-run .ensures .1)
-
-machine-of-requires : tie.Need-machine-of-requires
-machine-of-requires c κs = search needs
-
-run-requires : tie.Need-run-requires
-run-requires c κs = search needs
-
-put-run-requires : tie.Need-put-run-requires
-put-run-requires c κs = search needs
-
-same-length-2 : tie.Need-same-length-2
-same-length-2 c = search needs
-
-same-length-3 : tie.Need-same-length-3
-same-length-3 c = search needs
-
-same-length-4 : tie.Need-same-length-4
-same-length-4 c = search needs
 
 returns-2 : tie.Need-returns-2
 returns-2 c = run-made (given (c .before .before .before .before .before .before .before .before .before .before .before .before .before .before .before .before .before .before .before .before .before .before .before .args .rom .now) (c .before .before .before .before .before .before .before .before .before .before .before .before .before .before .before .before .before .before .before .before .before .before .before .args .input .now)) (c .before .before .before .before .before .before .before .before .before .before .before .before .before .before .before .before .before .before .before .before .before .before .before .args .cells .now) (c .before .before .before .before .before .before .before .before .before .before .before .before .before .before .before .before .before .before .before .before .before .before .before .args .«data» .now) (c .before .before .before .before .before .before .before .before .before .before .before .before .before .before .before .before .before .before .before .before .before .before .before .args .output .now) (sym (c .before .before .before .before .before .before .before .before .before .before .before .before .before .before .before .before .cells-pass .ensures) ∙ not-false _ (c .before .before .before .before .before .before .before .before .before .before .before .before .before .before .before .if1 .left)) (c .before .before .before .before .before .before .before .before .before .before .before .before .before .machine-of .ensures) (c .before .before .before .before .before .before .before .before .before .before .before .before .before .before .before .before .before .before .before .before .before .before .before .args .budget) _ (c .before .before .before .before .before .before .before .before .before .before .run .ensures) (c .before .before .put-run .ensures .1 .0) (c .before .before .put-run .ensures .1 .1) (c .before .before .put-run .ensures .0)
@@ -43,14 +16,14 @@ pub crowmitten-run-spec : {M : Type 1} → statement M
 crowmitten-run-spec =
     tie.close
     (tie.spec
-    cells-pass-requires
-    refused-run-requires
-    same-length
+    (λ c κs. search needs)
+    (λ c κs. search needs)
+    (λ c. search needs)
     returns
-    machine-of-requires
-    run-requires
-    put-run-requires
-    same-length-2
-    same-length-3
-    same-length-4
+    (λ c κs. search needs)
+    (λ c κs. search needs)
+    (λ c κs. search needs)
+    (λ c. search needs)
+    (λ c. search needs)
+    (λ c. search needs)
     returns-2)

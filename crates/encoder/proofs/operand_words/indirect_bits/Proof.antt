@@ -5,14 +5,8 @@ use Rattle.encoder.specs.OperandLaws.{modification-lt, next-lt}
 use Rattle.encoder.proofs.operand_words.indirect_bits.Statement.{statement}
 use Rattle.encoder.proofs.operand_words.indirect_bits.Tie as tie
 
-modification-bits-requires : tie.Need-modification-bits-requires
-modification-bits-requires c κs = search needs
-
 mul-result : tie.Need-mul-result
 mul-result c = omega (arith, c .modification-bits .ensures, modification-lt (c .before .args .i .modification))
-
-next-bits-requires : tie.Need-next-bits-requires
-next-bits-requires c κs = search needs
 
 add-result : tie.Need-add-result
 add-result c = omega (arith, c .before .modification-bits .ensures, modification-lt (c .before .before .args .i .modification), c .next-bits .ensures, next-lt (c .before .before .args .i .next))
@@ -24,4 +18,9 @@ returns c = rw (c .next-bits .ensures, c .before .modification-bits .ensures)
 pub indirect-bits-spec : {M : Type 1} → statement M
 indirect-bits-spec =
     tie.close
-    (tie.spec modification-bits-requires mul-result next-bits-requires add-result returns)
+    (tie.spec
+    (λ c κs. search needs)
+    mul-result
+    (λ c κs. search needs)
+    add-result
+    returns)

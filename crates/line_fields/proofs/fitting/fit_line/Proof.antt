@@ -6,23 +6,11 @@ use Rattle.line_fields.proofs.fitting.fit_line.Tie as tie
 returns : tie.Need-returns
 returns c = words-spill _ _ _ _ _ _ _ (c .if1 .taken)
 
-mul-if2 : tie.Need-mul-if2
-mul-if2 c = search needs
-
-sub-if2 : tie.Need-sub-if2
-sub-if2 c = search needs
-
-cells-length-requires : tie.Need-cells-length-requires
-cells-length-requires c κs = search needs
-
 returns-2 : tie.Need-returns-2
 returns-2 c = cells-spill _ _ _ _ _ _ _ (c .before .cells-length .ensures) (c .before .before .if1 .left) (c .if2 .taken)
 
 put-line-requires : tie.Need-put-line-requires
 put-line-requires c κs = line-room _ _ _ _ _ _ _ (c .before .before .cells-length .ensures) (c .before .before .before .if1 .left) (c .before .if2 .left)
-
-same-length : tie.Need-same-length
-same-length c = search needs
 
 returns-3 : tie.Need-returns-3
 returns-3 c = line-put _ _ _ _ _ _ _ (c .before .before .before .before .before .cells-length .ensures) (c .before .before .before .before .before .before .if1 .left) (c .before .before .before .before .if2 .left) (c .before .before .put-line .ensures)
@@ -32,10 +20,10 @@ fit-line-spec =
     tie.close
     (tie.spec
     returns
-    mul-if2
-    sub-if2
-    cells-length-requires
+    (λ c. search needs)
+    (λ c. search needs)
+    (λ c κs. search needs)
     returns-2
     put-line-requires
-    same-length
+    (λ c. search needs)
     returns-3)

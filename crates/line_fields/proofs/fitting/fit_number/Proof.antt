@@ -5,23 +5,11 @@ use borrow.Author.Needs.{needs}
 use Rattle.line_fields.proofs.fitting.fit_number.Statement.{statement}
 use Rattle.line_fields.proofs.fitting.fit_number.Tie as tie
 
-decimal-length-requires : tie.Need-decimal-length-requires
-decimal-length-requires c κs = search needs
-
 add-if1 : tie.Need-add-if1
 add-if1 c = omega (arith, decimal-most (c .before .before .args .n), c .decimal-length .ensures)
 
 returns : tie.Need-returns
 returns c = line-kept _ _ (omega (arith, number-length (c .before .before .before .args .n) (c .before .before .before .args .end), c .before .decimal-length .ensures, c .if1 .taken))
-
-put-decimal-requires : tie.Need-put-decimal-requires
-put-decimal-requires c κs = search needs
-
-put-byte-requires : tie.Need-put-byte-requires
-put-byte-requires c κs = search needs
-
-same-length : tie.Need-same-length
-same-length c = search needs
 
 returns-2 : tie.Need-returns-2
 returns-2 c = line-done _ _ (omega (arith, number-length (c .before .before .before .before .before .before .before .before .before .before .before .args .n) (c .before .before .before .before .before .before .before .before .before .before .before .args .end), c .before .before .before .before .before .before .before .before .before .decimal-length .ensures, c .before .before .before .before .before .before .before .before .if1 .left)) (put-then (c .before .before .before .before .before .before .put-decimal .ensures) (c .before .before .put-byte .ensures))
@@ -30,10 +18,10 @@ pub fit-number-spec : {M : Type 1} → statement M
 fit-number-spec =
     tie.close
     (tie.spec
-    decimal-length-requires
+    (λ c κs. search needs)
     add-if1
     returns
-    put-decimal-requires
-    put-byte-requires
-    same-length
+    (λ c κs. search needs)
+    (λ c κs. search needs)
+    (λ c. search needs)
     returns-2)

@@ -12,13 +12,15 @@ put-words-requires c κs = sent-room _ _ _ _ _ _ (c .before .before .before .bef
 put-byte-requires : tie.Need-put-byte-requires
 put-byte-requires c κs = newline-room _ _ _ _ _ _ (c .before .before .before .before .before .before .before .before .before .before .before .pre) (c .before .before .before .before .before .before .before .put-cells .ensures) (c .before .before .before .put-words .ensures)
 
-same-length : tie.Need-same-length
-same-length c = search needs
-
 returns : tie.Need-returns
 returns c = whole-put _ _ _ _ _ _ (c .before .before .before .before .before .before .before .before .before .before .before .before .before .before .pre) (c .before .before .before .before .before .before .before .before .before .before .put-cells .ensures) (c .before .before .before .before .before .before .put-words .ensures) (c .before .before .put-byte .ensures)
 
 pub put-line-spec : {M : Type 1} → statement M
 put-line-spec =
     tie.close
-    (tie.spec put-cells-requires put-words-requires put-byte-requires same-length returns)
+    (tie.spec
+    put-cells-requires
+    put-words-requires
+    put-byte-requires
+    (λ c. search needs)
+    returns)

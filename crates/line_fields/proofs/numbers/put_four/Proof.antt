@@ -5,18 +5,6 @@ use borrow.Author.Needs.{needs}
 use Rattle.line_fields.proofs.numbers.put_four.Statement.{statement}
 use Rattle.line_fields.proofs.numbers.put_four.Tie as tie
 
-digit-requires : tie.Need-digit-requires
-digit-requires c κs = search needs
-
-digit-requires-2 : tie.Need-digit-requires-2
-digit-requires-2 c κs = search needs
-
-digit-requires-3 : tie.Need-digit-requires-3
-digit-requires-3 c κs = search needs
-
-digit-requires-4 : tie.Need-digit-requires-4
-digit-requires-4 c κs = search needs
-
 put-byte-requires : tie.Need-put-byte-requires
 put-byte-requires c κs = record { fits = omega (arith, c .before .before .before .before .before .before .pre .fits, hexadecimal-length 4 (c .before .before .before .before .before .before .args .n)) }
 
@@ -29,9 +17,6 @@ put-byte-requires-3 c κs = record { fits = omega (arith, c .before .before .bef
 put-byte-requires-4 : tie.Need-put-byte-requires-4
 put-byte-requires-4 c κs = record { fits = omega (arith, c .before .before .before .before .before .before .before .before .before .before .before .before .before .before .before .before .before .before .pre .fits, hexadecimal-length 4 (c .before .before .before .before .before .before .before .before .before .before .before .before .before .before .before .before .before .before .args .n), c .before .before .before .before .before .before .before .before .before .before .before .put-byte .ensures .ends, put-length (c .before .before .before .before .before .before .before .before .before .before .before .put-byte .ensures), c .before .before .before .before .before .before .before .put-byte2 .ensures .ends, put-length (c .before .before .before .before .before .before .before .put-byte2 .ensures), c .before .before .before .put-byte3 .ensures .ends, put-length (c .before .before .before .put-byte3 .ensures)) }
 
-same-length : tie.Need-same-length
-same-length c = search needs
-
 returns : tie.Need-returns
 returns c = four-put _ (c .before .before .before .before .before .before .before .before .before .before .before .before .before .before .before .before .before .before .before .digit .ensures) (c .before .before .before .before .before .before .before .before .before .before .before .before .before .before .before .before .before .before .digit2 .ensures) (c .before .before .before .before .before .before .before .before .before .before .before .before .before .before .before .before .before .digit3 .ensures) (c .before .before .before .before .before .before .before .before .before .before .before .before .before .before .before .before .digit4 .ensures) (c .before .before .before .before .before .before .before .before .before .before .before .before .before .before .put-byte .ensures) (c .before .before .before .before .before .before .before .before .before .before .put-byte2 .ensures) (c .before .before .before .before .before .before .put-byte3 .ensures) (c .before .before .put-byte4 .ensures)
 
@@ -39,13 +24,13 @@ pub put-four-spec : {M : Type 1} → statement M
 put-four-spec =
     tie.close
     (tie.spec
-    digit-requires
-    digit-requires-2
-    digit-requires-3
-    digit-requires-4
+    (λ c κs. search needs)
+    (λ c κs. search needs)
+    (λ c κs. search needs)
+    (λ c κs. search needs)
     put-byte-requires
     put-byte-requires-2
     put-byte-requires-3
     put-byte-requires-4
-    same-length
+    (λ c. search needs)
     returns)

@@ -18,9 +18,6 @@ put-long-field-requires c κs = acc-room _ _ _ _ _ (c .before .before .before .b
 put-decimal-field-requires-2 : tie.Need-put-decimal-field-requires-2
 put-decimal-field-requires-2 c κs = ov-room _ _ _ _ _ (c .before .before .before .before .before .before .before .before .before .before .before .before .before .before .before .before .before .before .pre) (c .before .before .before .before .before .before .before .before .before .before .before .before .before .before .before .put-decimal .ensures) (c .before .before .before .before .before .before .before .before .before .before .before .put-decimal-field .ensures) (c .before .before .before .before .before .before .before .put-word-field .ensures) (c .before .before .before .put-long-field .ensures)
 
-same-length : tie.Need-same-length
-same-length c = search needs
-
 returns : tie.Need-returns
 returns c = cells-put _ _ _ _ _ (c .before .before .before .before .before .before .before .before .before .before .before .before .before .before .before .before .before .before .before .before .before .pre) (c .before .before .before .before .before .before .before .before .before .before .before .before .before .before .before .before .before .before .put-decimal .ensures) (c .before .before .before .before .before .before .before .before .before .before .before .before .before .before .put-decimal-field .ensures) (c .before .before .before .before .before .before .before .before .before .before .put-word-field .ensures) (c .before .before .before .before .before .before .put-long-field .ensures) (c .before .before .put-decimal-field2 .ensures)
 
@@ -33,5 +30,5 @@ put-cells-spec =
     put-word-field-requires
     put-long-field-requires
     put-decimal-field-requires-2
-    same-length
+    (λ c. search needs)
     returns)

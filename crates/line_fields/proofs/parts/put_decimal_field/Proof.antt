@@ -3,18 +3,14 @@ use borrow.Author.Needs.{needs}
 use Rattle.line_fields.proofs.parts.put_decimal_field.Statement.{statement}
 use Rattle.line_fields.proofs.parts.put_decimal_field.Tie as tie
 
-put-byte-requires : tie.Need-put-byte-requires
-put-byte-requires c κs = search needs
-
-put-decimal-requires : tie.Need-put-decimal-requires
-put-decimal-requires c κs = search needs
-
-same-length : tie.Need-same-length
-same-length c = search needs
-
 returns : tie.Need-returns
 returns c = put-then (c .before .before .before .before .before .before .put-byte .ensures) (c .before .before .put-decimal .ensures)
 
 pub put-decimal-field-spec : {M : Type 1} → statement M
 put-decimal-field-spec =
-    tie.close (tie.spec put-byte-requires put-decimal-requires same-length returns)
+    tie.close
+    (tie.spec
+    (λ c κs. search needs)
+    (λ c κs. search needs)
+    (λ c. search needs)
+    returns)

@@ -11,12 +11,14 @@ put-word-field-requires c κs = room-first _ (hexadecimal 4 (c .before .before .
 put-four-requires : tie.Need-put-four-requires
 put-four-requires c κs = room-then (c .before .before .before .put-word-field .ensures) _ (rw eight-digits at (c .before .before .before .before .before .before .pre))
 
-same-length : tie.Need-same-length
-same-length c = search needs
-
 returns : tie.Need-returns
 returns c = rw eight-digits (put-then (c .before .before .before .before .before .before .put-word-field .ensures) (c .before .before .put-four .ensures))
 
 pub put-long-field-spec : {M : Type 1} → statement M
 put-long-field-spec =
-    tie.close (tie.spec put-word-field-requires put-four-requires same-length returns)
+    tie.close
+    (tie.spec
+    put-word-field-requires
+    put-four-requires
+    (λ c. search needs)
+    returns)

@@ -43,4 +43,7 @@ returns c =
     )
 
 pub in-range-spec : {M : Type 1} → statement M
-in-range-spec = tie.close (tie.spec returns)
+in-range-spec =
+    tie.close
+    (tie.spec
+    returns)

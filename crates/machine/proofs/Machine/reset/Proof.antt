@@ -8,4 +8,7 @@ unfolding resetMachine
 returns c = refl
 
 pub reset-spec : {M : Type 1} → statement M
-reset-spec = tie.close (tie.spec returns)
+reset-spec =
+    tie.close
+    (tie.spec
+    returns)

@@ -3,30 +3,6 @@ use borrow.Author.Needs.{needs}
 use Rattle.runfile.proofs.numbers.numbers_of.Statement.{statement}
 use Rattle.runfile.proofs.numbers.numbers_of.Tie as tie
 
-word-at-requires : tie.Need-word-at-requires
-word-at-requires c κs = search needs
-
-word-at-requires-2 : tie.Need-word-at-requires-2
-word-at-requires-2 c κs = search needs
-
-word-at-requires-3 : tie.Need-word-at-requires-3
-word-at-requires-3 c κs = search needs
-
-word-at-requires-4 : tie.Need-word-at-requires-4
-word-at-requires-4 c κs = search needs
-
-word-at-requires-5 : tie.Need-word-at-requires-5
-word-at-requires-5 c κs = search needs
-
-word-at-requires-6 : tie.Need-word-at-requires-6
-word-at-requires-6 c κs = search needs
-
-word-at-requires-7 : tie.Need-word-at-requires-7
-word-at-requires-7 c κs = search needs
-
-word-at-requires-8 : tie.Need-word-at-requires-8
-word-at-requires-8 c κs = search needs
-
 returns : tie.Need-returns
 unfolding numbersOf
 returns c = rw (c .word-at8 .ensures, c .before .word-at7 .ensures, c .before .before .word-at6 .ensures, c .before .before .before .word-at5 .ensures, c .before .before .before .before .word-at4 .ensures, c .before .before .before .before .before .word-at3 .ensures, c .before .before .before .before .before .before .word-at2 .ensures, c .before .before .before .before .before .before .before .word-at .ensures)
@@ -35,12 +11,12 @@ pub numbers-of-spec : {M : Type 1} → statement M
 numbers-of-spec =
     tie.close
     (tie.spec
-    word-at-requires
-    word-at-requires-2
-    word-at-requires-3
-    word-at-requires-4
-    word-at-requires-5
-    word-at-requires-6
-    word-at-requires-7
-    word-at-requires-8
+    (λ c κs. search needs)
+    (λ c κs. search needs)
+    (λ c κs. search needs)
+    (λ c κs. search needs)
+    (λ c κs. search needs)
+    (λ c κs. search needs)
+    (λ c κs. search needs)
+    (λ c κs. search needs)
     returns)

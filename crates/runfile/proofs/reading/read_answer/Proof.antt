@@ -8,15 +8,9 @@ returns : tie.Need-returns
 unfolding readAnswer
 returns c = simp (lt-ltb _ _ (c .if1 .taken))
 
-numbers-of-requires : tie.Need-numbers-of-requires
-numbers-of-requires c κs = search needs
-
 returns-2 : tie.Need-returns-2
 unfolding readAnswer
 returns-2 c = simp (le-ltb _ _ (c .before .before .before .if1 .left), ← c .before .before .numbers-of .ensures, ne-eqb _ _ (c .if2 .taken))
-
-rules-kept-requires : tie.Need-rules-kept-requires
-rules-kept-requires c κs = search needs
 
 returns-3 : tie.Need-returns-3
 unfolding readAnswer
@@ -29,4 +23,10 @@ returns-4 c = simp (le-ltb _ _ (c .before .before .before .before .before .if1 .
 pub read-answer-spec : {M : Type 1} → statement M
 read-answer-spec =
     tie.close
-    (tie.spec returns numbers-of-requires returns-2 rules-kept-requires returns-3 returns-4)
+    (tie.spec
+    returns
+    (λ c κs. search needs)
+    returns-2
+    (λ c κs. search needs)
+    returns-3
+    returns-4)

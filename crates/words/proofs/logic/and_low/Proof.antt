@@ -5,14 +5,13 @@ use borrow.Author.Needs.{needs}
 use Rattle.words.proofs.logic.and_low.Statement.{statement}
 use Rattle.words.proofs.logic.and_low.Tie as tie
 
-low-half-requires : tie.Need-low-half-requires
-low-half-requires c κs = search needs
-
-from-halves-requires : tie.Need-from-halves-requires
-from-halves-requires c κs = search needs
-
 returns : tie.Need-returns
 returns c = c .from-halves .ensures ∙ and-is (c .before .before .args .acc) (c .before .before .args .w) (c .before .low-half .result) (c .before .low-half .ensures) (omega arith)
 
 pub and-low-spec : {M : Type 1} → statement M
-and-low-spec = tie.close (tie.spec low-half-requires from-halves-requires returns)
+and-low-spec =
+    tie.close
+    (tie.spec
+    (λ c κs. search needs)
+    (λ c κs. search needs)
+    returns)

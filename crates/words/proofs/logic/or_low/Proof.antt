@@ -5,18 +5,14 @@ use borrow.Author.Needs.{needs}
 use Rattle.words.proofs.logic.or_low.Statement.{statement}
 use Rattle.words.proofs.logic.or_low.Tie as tie
 
-high-half-requires : tie.Need-high-half-requires
-high-half-requires c κs = search needs
-
-low-half-requires : tie.Need-low-half-requires
-low-half-requires c κs = search needs
-
-from-halves-requires : tie.Need-from-halves-requires
-from-halves-requires c κs = search needs
-
 returns : tie.Need-returns
 returns c = c .from-halves .ensures ∙ rw (c .before .before .high-half .ensures) (or-is (c .before .before .before .args .acc) (c .before .before .before .args .w) (c .before .low-half .result) (c .before .low-half .ensures) (omega arith))
 
 pub or-low-spec : {M : Type 1} → statement M
 or-low-spec =
-    tie.close (tie.spec high-half-requires low-half-requires from-halves-requires returns)
+    tie.close
+    (tie.spec
+    (λ c κs. search needs)
+    (λ c κs. search needs)
+    (λ c κs. search needs)
+    returns)
