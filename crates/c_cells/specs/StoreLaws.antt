@@ -6,7 +6,7 @@ use native.Mathlib.Omega.{arith}
 use lib.ListN.{length, set, length-append}
 use lib.Seq.{sets, sets-eq, drop-length}
 use Rattle.machine.specs.declared.Machine.{Machine}
-use Rattle.machine.specs.Table.{cellCount}
+use Rattle.machine.specs.Table.{cellCount, placeOf}
 use Rattle.c_cells.specs.Cells.{cellsOf}
 
 pub sets-append : (a b l : List ℕ) (i : ℕ) → sets l i (a ++ b) ≡ sets (sets l i a) (i + length a) b
@@ -23,10 +23,10 @@ sets-whole vs l h =
 
 -- ---- the cells of a machine
 
-in-parts : (l registers stack first pointers cursors : List ℕ) → length first ≡ 5 → length registers ≡ 8 → length pointers ≡ 11 → length stack ≡ 8
-    → sets l 0 (first ++ (registers ++ (pointers ++ (stack ++ cursors))))
-    ≡ sets (sets (sets (sets (sets l 0 first) 5 registers) 13 pointers) 24 stack) 32 cursors
-in-parts l registers stack first pointers cursors f r p s = rw (sets-append, sets-append, sets-append, sets-append, f, r, p, s)
+in-parts : (l registers stack first pointers last : List ℕ) → length first ≡ 5 → length registers ≡ 8 → length pointers ≡ 11 → length stack ≡ 8
+    → sets l 0 (first ++ (registers ++ (pointers ++ (stack ++ last))))
+    ≡ sets (sets (sets (sets (sets l 0 first) 5 registers) 13 pointers) 24 stack) 32 last
+in-parts l registers stack first pointers last f r p s = rw (sets-append, sets-append, sets-append, sets-append, f, r, p, s)
 
 pub cells-length : (m : Machine) → length (m .ar) ≡ 8 → length (m .stack .words) ≡ 8 → length (cellsOf m) ≡ cellCount
 unfolding cellsOf
@@ -42,10 +42,10 @@ pub parts-put : (m : Machine) (l first pointers last : List ℕ) {f registers p 
     → (stack ≡ m .stack .words) × (length stack ≡ 8)
     → k ≡ last
     → l₁ ≡ sets l 0 f
-    → l₂ ≡ sets l₁ 5 registers
-    → l₃ ≡ sets l₂ 13 p
-    → l₄ ≡ sets l₃ 24 stack
-    → l₅ ≡ sets l₄ 32 k
+    → l₂ ≡ sets l₁ (placeOf "AR") registers
+    → l₃ ≡ sets l₂ (placeOf "ARP") p
+    → l₄ ≡ sets l₃ (placeOf "stack") stack
+    → l₅ ≡ sets l₄ (placeOf "input cursor") k
     → l₅ ≡ cellsOf m
 parts-put m l first pointers last parts n₁ n₃ n f r p s k e₁ e₂ e₃ e₄ e₅ =
     let a : length (m .ar) ≡ 8 = sym (ap length (r .0)) ∙ r .1 in

@@ -71,7 +71,7 @@ fn stack_cells(m: Machine) -> [u16; 8]
     stack.words
 }
 
-// The two cursors, and what was appended to them.
+// The cells behind the stack: the two cursors.
 fn last_cells(m: Machine) -> [u32; 2]
     ensures { λ r. ⌜ r ≡ m .«input_cursor» ∷ m .«output_cursor» ∷ [] ⌝ }
 {
