@@ -1,17 +1,14 @@
 -- Where the addresses of each region lie; B0 is never in both spaces; a data move stays on chip.
 use mathlib.Core.Path.{_≡_, refl, subst}
-use mathlib.Core.Bool.{Bool, true, false, cond, _&&_, false≢true}
+use mathlib.Core.Bool.{Bool, true, false, cond, false≢true}
 use Prim.Native.Nat.{ℕ, _+_, _≤_, _<_}
 use native.Mathlib.Omega.{arith}
 use borrow.Author.Tests.{leb-true, ltb-true, eqb-true}
+use Rattle.basic_laws.specs.Tests.{both-hold}
 use Rattle.board.specs.declared.Region.{Region}
 use Rattle.board.specs.declared.Region.the-variants.{Absent, B2, B0, B1, External}
 use Rattle.board.specs.Regions.{within, dataRegion, present, onChipRegion, dataPresent, onChip, moveAllowed, inRom, inProgramB0, programPresent}
 use Rattle.board.specs.RegionFacts.{Lies, Moves, InProgramB0}
-
-pub both-hold : (t u : Bool) → t && u ≡ true → (t ≡ true) × (u ≡ true)
-both-hold true u h = (refl, h)
-both-hold false u h = absurd (false≢true h)
 
 bounds : (first last a : ℕ) → within first last a ≡ true → (first ≤ a) × (a ≤ last)
 bounds first last a h = let p = both-hold _ _ h in (leb-true _ _ (p .0), leb-true _ _ (p .1))

@@ -11,8 +11,8 @@ use lib.Seq.{slice, take-nil, set-out}
 use denote.Ref.{RefT, ptr, now}
 use borrow.Author.Tests.{le-leb, lt-leb, leb-true, leb-false, eqb-true}
 use borrow.Rule.Slice.PartMut.{mid-len, post-is, put-same, set-mid-at, same-len-mid, take-put, drop-put}
+use Rattle.basic_laws.specs.Tests.{both-hold}
 use Rattle.board.specs.Slices.{memoriesFit, portFits, slicesFit, partStart, dataPagePart, dataPageStored}
-use Rattle.board.specs.RegionLaws.{both-hold}
 use Rattle.machine.specs.declared.Machine.{Machine}
 use Rattle.board.specs.SliceFacts.{MemoriesFit, PortFits, SlicesFit}
 use Rattle.board.specs.DataPage.{count, dataPageLent, dataPageWritten, rejoined}

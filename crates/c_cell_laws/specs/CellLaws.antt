@@ -1,6 +1,6 @@
 -- The cells of a machine are its own, each in its own place: reading them back gives the machine, and a machine read from cells that pass the checks has those cells.
 use mathlib.Core.Path.{_≡_, refl, sym, ap, _∙_}
-use mathlib.Core.Bool.{Bool, true, false, _&&_, false≢true}
+use mathlib.Core.Bool.{Bool, true, false, _&&_}
 use mathlib.Core.List.{List, [], _∷_, _++_}
 use Prim.Native.Nat.{ℕ, zero, suc, _+_, _%_, _^_, _≤_, _<_}
 use native.Mathlib.Omega.{arith}
@@ -9,6 +9,7 @@ use lib.ListN.{length, drop, getD, replicate}
 use lib.Seq.{drop-cons, drop-length}
 use native.Mathlib.Nat.{mod-eq-of-lt}
 use borrow.Author.Tests.{leb-true, ltb-true, ltb-false}
+use Rattle.basic_laws.specs.Tests.{both-hold}
 use Rattle.machine.specs.Table.{Cell, cells, cellCount}
 use Rattle.answers.specs.Numbers.{isDone}
 use Rattle.c_cells.specs.Cells.{cellsOf, machineFrom, machineOf}
@@ -16,11 +17,6 @@ use Rattle.c_cells.specs.Checks.{limits, withinLimits, cellsAnswer}
 use Rattle.c_cells.specs.CheckLaws.{cells-kept, machine-of-all}
 
 -- ---- every cell at most its limit
-
--- the last test of a nest, and those before it
-last : (before : Bool) {x most : ℕ} → before && leb x most ≡ true → (before ≡ true) × (x ≤ most)
-last true h = (refl, leb-true _ _ h)
-last false h = absurd (false≢true h)
 
 -- what holds of every number below n, and of n, holds of every number below n + 1
 below-more : (P : ℕ → Type 0) (n : ℕ) → ((i : ℕ) → i < n → P i) → P n → (i : ℕ) → i < suc n → P i
@@ -36,8 +32,8 @@ pub within-at : (cells : List ℕ) (n : ℕ) → withinLimits n cells ≡ true �
 unfolding withinLimits
 within-at cells zero h = λ i below. absurd (omega arith)
 within-at cells (suc n) h =
-    let both = last (withinLimits n cells) h in
-    below-more (λ (i : ℕ). getD cells i 0 ≤ getD limits i 0) n (within-at cells n (both .0)) (both .1)
+    let both = both-hold (withinLimits n cells) _ h in
+    below-more (λ (i : ℕ). getD cells i 0 ≤ getD limits i 0) n (within-at cells n (both .0)) (leb-true _ _ (both .1))
 
 -- ---- the machine of cells, back to cells
 
@@ -69,8 +65,8 @@ held-at : (n : ℕ) → limitsHeld n ≡ true → (i : ℕ) → i < n → getD l
 unfolding limitsHeld
 held-at zero h = λ i below. absurd (omega arith)
 held-at (suc n) h =
-    let both = last (limitsHeld n) h in
-    below-more (λ (i : ℕ). getD limits i 0 < getD widths i 0) n (held-at n (both .0)) (both .1)
+    let both = both-hold (limitsHeld n) _ h in
+    below-more (λ (i : ℕ). getD limits i 0 < getD widths i 0) n (held-at n (both .0)) (leb-true _ _ (both .1))
 
 -- the numbers as the fields hold them
 held : ℕ → ℕ → List ℕ → List ℕ

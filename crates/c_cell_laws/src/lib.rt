@@ -1,1 +1,1 @@
-// The laws of the cells as 34 numbers (specs/): each is read from its own place and written to it, and their limits are check 1.
+// The laws of the cells as numbers (specs/): each is read from its own place and written to it, and their limits are check 1.

@@ -6,7 +6,7 @@ use native.Mathlib.Omega.{arith}
 use native.Mathlib.Numerals.{add-one}
 use lib.ListN.{length, take, getD, set}
 use lib.Seq.{sets, length-sets, take-suc, take-length, length-take-le}
-use Rattle.c_cells.specs.StoreLaws.{sets-append}
+use Rattle.basic_laws.specs.Stores.{sets-append}
 
 -- the first k numbers of the run are stored
 pub record Put (numbers : List ℕ) (at : ℕ) (cells₀ cells : List ℕ) (k : ℕ) : Type 0 where

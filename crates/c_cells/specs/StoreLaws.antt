@@ -1,27 +1,13 @@
--- Laws of runs of stores, and of a machine's cells stored in parts.
+-- Laws of a machine's cells stored in parts.
 use mathlib.Core.Path.{_≡_, sym, ap, _∙_}
-use mathlib.Core.List.{List, [], _∷_, _++_, append-nil}
-use Prim.Native.Nat.{ℕ, suc, _+_}
-use native.Mathlib.Omega.{arith}
-use lib.ListN.{length, set, length-append}
-use lib.Seq.{sets, sets-eq, drop-length}
+use mathlib.Core.List.{List, _++_}
+use Prim.Native.Nat.{ℕ, _+_}
+use lib.ListN.{length, length-append}
+use lib.Seq.{sets}
+use Rattle.basic_laws.specs.Stores.{sets-append, sets-whole}
 use Rattle.machine.specs.declared.Machine.{Machine}
-use Rattle.machine.specs.Table.{cellCount, placeOf}
+use Rattle.machine.specs.Table.{cellCount, cellPlaceOf}
 use Rattle.c_cells.specs.Cells.{cellsOf}
-
-pub sets-append : (a b l : List ℕ) (i : ℕ) → sets l i (a ++ b) ≡ sets (sets l i a) (i + length a) b
-sets-append [] b l i = let e : i + 0 ≡ i = omega arith in rw e
-sets-append (x ∷ a) b l i =
-    let e : i + suc (length a) ≡ suc i + length a = omega arith in
-    rw e (sets-append a b (set l i x) (suc i))
-
--- a run as long as the slice is all that it then holds
-pub sets-whole : (vs l : List ℕ) → length vs ≡ length l → sets l 0 vs ≡ vs
-sets-whole vs l h =
-    let e : 0 + length vs ≡ length vs = omega arith in
-    sets-eq vs l 0 (omega arith) ∙ rw (e, h, drop-length) (append-nil vs)
-
--- ---- the cells of a machine
 
 in-parts : (l registers stack first pointers last : List ℕ) → length first ≡ 5 → length registers ≡ 8 → length pointers ≡ 11 → length stack ≡ 8
     → sets l 0 (first ++ (registers ++ (pointers ++ (stack ++ last))))
@@ -42,10 +28,10 @@ pub parts-put : (m : Machine) (l first pointers last : List ℕ) {f registers p 
     → (stack ≡ m .stack .words) × (length stack ≡ 8)
     → k ≡ last
     → l₁ ≡ sets l 0 f
-    → l₂ ≡ sets l₁ (placeOf "AR") registers
-    → l₃ ≡ sets l₂ (placeOf "ARP") p
-    → l₄ ≡ sets l₃ (placeOf "stack") stack
-    → l₅ ≡ sets l₄ (placeOf "input cursor") k
+    → l₂ ≡ sets l₁ (cellPlaceOf "AR") registers
+    → l₃ ≡ sets l₂ (cellPlaceOf "ARP") p
+    → l₄ ≡ sets l₃ (cellPlaceOf "stack") stack
+    → l₅ ≡ sets l₄ (cellPlaceOf "input cursor") k
     → l₅ ≡ cellsOf m
 parts-put m l first pointers last parts n₁ n₃ n f r p s k e₁ e₂ e₃ e₄ e₅ =
     let a : length (m .ar) ≡ 8 = sym (ap length (r .0)) ∙ r .1 in

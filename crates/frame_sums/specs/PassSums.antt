@@ -130,7 +130,8 @@ from-zero ws ovm f l = rw (+ℤ-idl (floors ws)) at (passes-pending ws fromZero 
 
 -- ---- the sum of them against the exact sum
 
-pub floors-near : (ws : List Pair) → (64 * up (floors ws) + dn (exactSum ws) ≤ up (exactSum ws) + 64 * dn (floors ws)) × (up (exactSum ws) + 64 * dn (floors ws) ≤ 64 * up (floors ws) + dn (exactSum ws) + 63 * length ws)
+pub floors-near : (ws : List Pair)
+    → (64 * up (floors ws) + dn (exactSum ws) ≤ up (exactSum ws) + 64 * dn (floors ws)) × (up (exactSum ws) + 64 * dn (floors ws) ≤ 64 * up (floors ws) + dn (exactSum ws) + 63 * length ws)
 unfolding floors floored exactSum
 floors-near [] = (omega arith, omega arith)
 floors-near (w ∷ ws) =

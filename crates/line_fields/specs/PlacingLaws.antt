@@ -5,9 +5,9 @@ use Prim.Native.Nat.{ℕ, _+_, _-_, _*_, _/_, _%_, _≤_, _<_}
 use native.Mathlib.Omega.{arith}
 use native.Mathlib.Numerals.{add-one}
 use lib.ListN.{length, take, getD, set, length-append}
-use lib.Seq.{sets, length-sets, take-suc, take-length, length-take-le}
+use lib.Seq.{length-sets, take-suc, take-length, length-take-le}
 use borrow.Author.Tests.{le-leb, lt-leb}
-use Rattle.runfile.specs.WordLaws.{sets-append, sets-front}
+use Rattle.basic_laws.specs.Stores.{sets-append, sets-front}
 use Rattle.line_digits.specs.Digits.{digitOf, hexadecimal, decimal}
 use Rattle.line_digits.specs.DigitLaws.{small-digit, hexadecimal-length, decimal-one, decimal-more}
 use Rattle.line_fields.specs.Placing.{space, lineIn, lengthIn}

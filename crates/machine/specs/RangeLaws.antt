@@ -9,17 +9,13 @@ use lib.Dec.{T, ltb, eqb, eqb→eq}
 use lib.ListN.{length, getD}
 use lib.Text.{eqt, eqt→eq}
 use borrow.Author.Tests.{leb-true, le-leb, eqb-true, eq-eqb}
+use Rattle.basic_laws.specs.Tests.{both-hold}
 use Rattle.machine.specs.declared.Machine.{Machine}
 use Rattle.machine.specs.Table.{Cell, cells, chosen, only, countOf, inColumn, rowsHeldOf, rowsHeld}
 use Rattle.machine.specs.Cells.{put, putWords}
 use Rattle.machine.specs.Reset.{resetMachine}
 use Rattle.machine.specs.Range.{noneAbove, rowInRange, rowsInRange, inRange}
 use Rattle.machine.specs.Facts.{largestOf, cellWords, cellNumber, AllMost, RowsWithin, Within, Ranged}
-
--- two tests and both of them
-both : (a b : Bool) → a && b ≡ true → (a ≡ true) × (b ≡ true)
-both true b h = (refl, h)
-both false b h = absurd (false≢true h)
 
 -- ---- the test, and the facts
 
@@ -36,13 +32,13 @@ record Own (c : Cell) (cs : List Cell) : Type 0 where
 own : (c : Cell) (cs : List Cell) → ownRows (c ∷ cs) ≡ true → Own c cs
 unfolding ownRows
 own c cs o =
-    let b = both _ _ o in
-    let r = both (eqb (countOf (c .name)) (c .count)) _ (b .0) in
+    let b = both-hold _ _ o in
+    let r = both-hold (eqb (countOf (c .name)) (c .count)) _ (b .0) in
     record { own-count = eqb-true _ _ (r .0); own-largest = eqb-true _ _ (r .1); others = b .1 }
 
 all-most : (limit : ℕ) (xs : List ℕ) → noneAbove limit xs ≡ true → AllMost limit xs
 all-most limit [] h = tt
-all-most limit (x ∷ xs) h = let b = both (noneAbove limit xs) _ h in (leb-true _ _ (b .1), all-most limit xs (b .0))
+all-most limit (x ∷ xs) h = let b = both-hold (noneAbove limit xs) _ h in (leb-true _ _ (b .1), all-most limit xs (b .0))
 
 none-above : (limit : ℕ) (xs : List ℕ) → AllMost limit xs → noneAbove limit xs ≡ true
 none-above limit [] h = refl
@@ -56,8 +52,8 @@ pub record RowsKept (c : Cell) (row : List ℕ) (cs : List Cell) (rows : List (L
 
 pub rows-first : (c : Cell) (row : List ℕ) (cs : List Cell) (rows : List (List ℕ)) → rowsInRange (c ∷ cs) (row ∷ rows) ≡ true → RowsKept c row cs rows
 rows-first c row cs rows h =
-    let b = both (rowInRange c row) _ h in
-    let r = both (eqb (length row) (c .count)) _ (b .0) in
+    let b = both-hold (rowInRange c row) _ h in
+    let r = both-hold (eqb (length row) (c .count)) _ (b .0) in
     record { row-count = eqb-true _ _ (r .0); row-most = all-most (c .largest) row (r .1); rows-kept = b .1 }
 
 pub rows-more : (c : Cell) (row : List ℕ) (cs : List Cell) (rows : List (List ℕ)) → RowsKept c row cs rows → rowsInRange (c ∷ cs) (row ∷ rows) ≡ true

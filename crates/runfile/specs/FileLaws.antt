@@ -1,13 +1,13 @@
 -- Laws of a file's tests, of its length, and of what it reads as.
 use mathlib.Core.Path.{_≡_, refl, _∙_}
-use mathlib.Core.Bool.{Bool, true, false, _&&_, false≢true}
+use mathlib.Core.Bool.{Bool, true, false, false≢true}
 use mathlib.Core.List.{List}
 use Prim.Native.Nat.{ℕ}
 use native.Mathlib.Omega.{arith}
 use lib.Dec.{ltb, eqb}
 use lib.ListN.{length, length-append}
 use borrow.Author.Tests.{leb-true, le-leb, eqb-true, eq-eqb, ltb-false, le-ltb}
-use Rattle.answers.specs.declared.Answer.{Answer}
+use Rattle.basic_laws.specs.Tests.{both-hold}
 use Rattle.answers.specs.declared.Answer.the-variants.{Done}
 use Rattle.answers.specs.Numbers.{isDone}
 use Rattle.runfile.specs.declared.numbers.EightNumbers.{EightNumbers}
@@ -20,16 +20,11 @@ use Rattle.runfile.specs.WordLaws.{bytes-length, words-length}
 abbrev countsOf : EightNumbers → Head
 countsOf n = record { «program_count» = n .«program_count»; «data_count» = n .«data_count»; «input_count» = n .«input_count»; budget = n .budget }
 
--- the last test of a nest, and those before it
-pub last : (before : Bool) {test : Bool} → before && test ≡ true → (before ≡ true) × (test ≡ true)
-last true h = (refl, h)
-last false h = absurd (false≢true h)
-
 pub counts-facts : (p d i : ℕ) → countsKept p d i ≡ true → CountsKept p d i
 unfolding countsKept
 counts-facts p d i h =
-    let input′ = last _ h in
-    let data′ = last _ (input′ .0) in
+    let input′ = both-hold _ _ h in
+    let data′ = both-hold _ _ (input′ .0) in
     record { program-most = leb-true _ _ (data′ .0); data-most = leb-true _ _ (data′ .1); input-most = leb-true _ _ (input′ .1) }
 
 pub counts-kept : (p d i : ℕ) → CountsKept p d i → countsKept p d i ≡ true
@@ -40,10 +35,10 @@ module _ (n : EightNumbers) (bytesCount : ℕ) where
   pub rules-facts : rulesKept n bytesCount ≡ true → RulesKept n bytesCount
   unfolding rulesKept
   rules-facts h =
-      let file′ = last _ h in
-      let input′ = last _ (file′ .0) in
-      let data′ = last _ (input′ .0) in
-      let program′ = last _ (data′ .0) in
+      let file′ = both-hold _ _ h in
+      let input′ = both-hold _ _ (file′ .0) in
+      let data′ = both-hold _ _ (input′ .0) in
+      let program′ = both-hold _ _ (data′ .0) in
       record {
         counts = counts-facts _ _ _ (program′ .0);
         program-starts = eqb-true _ _ (program′ .1);

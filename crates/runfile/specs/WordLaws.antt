@@ -1,32 +1,13 @@
--- Laws of runs of stores, of words and their bytes, and of bounds.
-use mathlib.Core.Path.{_≡_, refl, ap, _∙_}
-use mathlib.Core.List.{List, [], _∷_, _++_, append-nil}
+-- Laws of words and their bytes, and of bounds.
+use mathlib.Core.Path.{_≡_, refl, ap}
+use mathlib.Core.List.{List, [], _∷_, _++_}
 use Prim.Native.Nat.{ℕ, zero, suc, _+_, _*_, _/_, _%_, _≤_, _<_}
 use native.Mathlib.Omega.{arith}
 use native.Mathlib.Numerals.{add-one}
-use lib.ListN.{length, take, drop, getD, set}
-use lib.Seq.{sets, sets-eq, drop-cons, drop-length}
+use lib.ListN.{length, take, drop, getD}
+use lib.Seq.{drop-cons}
 use Rattle.runfile.specs.Files.{bytesOf, wordAt, wordsAt}
 use Rattle.runfile.specs.Facts.{Below}
-
--- ---- runs of stores
-
-pub sets-append : (a b l : List ℕ) (i : ℕ) → sets l i (a ++ b) ≡ sets (sets l i a) (i + length a) b
-sets-append [] b l i = let e : i + 0 ≡ i = omega arith in rw e
-sets-append (x ∷ a) b l i =
-    let e : i + suc (length a) ≡ suc i + length a = omega arith in
-    rw e (sets-append a b (set l i x) (suc i))
-
--- a run from the start leaves what is past its end
-pub sets-front : (vs l : List ℕ) → length vs ≤ length l → sets l 0 vs ≡ vs ++ drop (length vs) l
-sets-front vs l h =
-    let e : 0 + length vs ≡ length vs = omega arith in
-    sets-eq vs l 0 (omega arith) ∙ rw e
-
--- a run as long as the slice is all that it then holds
-pub sets-whole : (vs l : List ℕ) → length vs ≡ length l → sets l 0 vs ≡ vs
-sets-whole vs l e =
-    sets-front vs l (omega arith) ∙ rw (e, drop-length) (append-nil vs)
 
 -- ---- words out of bytes
 

@@ -67,7 +67,12 @@ module _ (c : Contents) where
       section (headWords c ++ c .program) (c .data-words) (c .input) (16 + 2 * length (c .program)) refl (omega arith)
       in
       let i =
-      section (headWords c ++ (c .program ++ c .data-words)) (c .input) [] (16 + 2 * length (c .program) + 2 * length (c .data-words)) (simp (append-assoc, append-nil)) (simp length-append (omega arith))
+      section
+      (headWords c ++ (c .program ++ c .data-words))
+      (c .input) []
+      (16 + 2 * length (c .program) + 2 * length (c .data-words))
+      (simp (append-assoc, append-nil))
+      (simp length-append (omega arith))
       in
       simp (file-numbers, p, d, i)
 
@@ -154,7 +159,15 @@ module _ (bytes : List ℕ) where
         let programAt : 0 + 2 * 8 ≡ n .«program_offset» = omega arith in
         let dataAt : n .«program_offset» + 2 * n .«program_count» ≡ n .«data_offset» = omega arith in
         let inputAt : n .«data_offset» + 2 * n .«data_count» ≡ n .«input_offset» = omega arith in
-        rw (head-again, words-add bytes 0 8 (n .«program_count» + (n .«data_count» + n .«input_count»)), programAt, words-add bytes (n .«program_offset») (n .«program_count») (n .«data_count» + n .«input_count»), dataAt, words-add bytes (n .«data_offset») (n .«data_count») (n .«input_count»), inputAt)
+        rw (
+          head-again,
+          words-add bytes 0 8 (n .«program_count» + (n .«data_count» + n .«input_count»)),
+          programAt,
+          words-add bytes (n .«program_offset») (n .«program_count») (n .«data_count» + n .«input_count»),
+          dataAt,
+          words-add bytes (n .«data_offset») (n .«data_count») (n .«input_count»),
+          inputAt,
+        )
 
     module _ (below : Below 256 bytes) where
       file-again : fileOf (sectionsOf bytes) ≡ bytes

@@ -7,7 +7,8 @@ use borrow.Author.Fill.{fill-more}
 use lib.ListN.{length, drop, set, replicate, length-set}
 use lib.Seq.{sets, length-sets, drop-length}
 use Rattle.runfile.specs.Files.{wordAt, wordsAt}
-use Rattle.runfile.specs.WordLaws.{sets-append, words-length, words-add}
+use Rattle.runfile.specs.WordLaws.{words-length, words-add}
+use Rattle.basic_laws.specs.Stores.{sets-append}
 
 -- clear: of a memory of n words, those before an address are 0
 pub record Cleared (n : ℕ) (memory₀ memory : List ℕ) (address : ℕ) : Type 0 where

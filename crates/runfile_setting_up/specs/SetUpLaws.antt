@@ -7,13 +7,15 @@ use native.Mathlib.Omega.{arith}
 use lib.ListN.{length}
 use lib.Seq.{sets}
 use borrow.Author.Tests.{eqb-true}
+use Rattle.basic_laws.specs.Tests.{both-hold}
 use Rattle.answers.specs.Numbers.{isDone}
 use Rattle.board.specs.SliceFacts.{MemoriesFit}
 use Rattle.board.specs.SliceLaws.{memories-fit}
 use Rattle.runfile.specs.declared.numbers.EightNumbers.{EightNumbers}
 use Rattle.runfile.specs.Files.{Contents, numbersOf, readAnswer, readContents, sectionsOf, wordsAt}
-use Rattle.runfile.specs.WordLaws.{words-length, sets-whole}
-use Rattle.runfile.specs.FileLaws.{last, accepted, read-done, section-lengths}
+use Rattle.runfile.specs.WordLaws.{words-length}
+use Rattle.basic_laws.specs.Stores.{sets-whole}
+use Rattle.runfile.specs.FileLaws.{accepted, read-done, section-lengths}
 use Rattle.runfile_setting_up.specs.SetUp.{Lent, lent, lentFit, setUpAnswer, memoryWith, loaded, setUp}
 use Rattle.runfile_setting_up.specs.SetUpFacts.{SetUpDone}
 use Rattle.runfile_setting_up.specs.MemoryLaws.{memory-length}
@@ -27,7 +29,7 @@ module _ (bytes : List ℕ) where
       by false r fit f = absurd (false≢true (simp r at h))
       by true r false f = absurd (false≢true (simp (r, f) at h))
       by true r true f =
-          let p = last _ f in
+          let p = both-hold _ _ f in
           record {
             file-done = r;
             file-accepted = accepted bytes r;

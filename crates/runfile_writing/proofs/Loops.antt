@@ -7,7 +7,8 @@ use native.Mathlib.Numerals.{add-one}
 use lib.ListN.{length, take, getD}
 use lib.Seq.{sets, length-sets, take-suc, take-length, length-take-le}
 use Rattle.runfile.specs.Files.{bytesOf}
-use Rattle.runfile.specs.WordLaws.{sets-append, bytes-length, bytes-append}
+use Rattle.runfile.specs.WordLaws.{bytes-length, bytes-append}
+use Rattle.basic_laws.specs.Stores.{sets-append}
 
 -- put_words: the bytes of the first k words are put down
 pub record Put (words : List ℕ) (at : ℕ) (bytes₀ bytes : List ℕ) (k : ℕ) : Type 0 where

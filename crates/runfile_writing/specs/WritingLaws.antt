@@ -10,7 +10,8 @@ use borrow.Author.Tests.{leb-true, le-leb, lt-leb}
 use Rattle.answers.specs.declared.Answer.the-variants.{Done, FileRules, FileNoRoom}
 use Rattle.answers.specs.Numbers.{isDone}
 use Rattle.runfile.specs.Files.{Contents, bytesOf, headWords, fileOf, contentsFit}
-use Rattle.runfile.specs.WordLaws.{bytes-length, bytes-append, sets-append, sets-front}
+use Rattle.runfile.specs.WordLaws.{bytes-length, bytes-append}
+use Rattle.basic_laws.specs.Stores.{sets-append, sets-front}
 use Rattle.runfile_writing.specs.Writing.{writeAnswer, written}
 
 head-length : (c : Contents) → 0 + length (bytesOf (headWords c)) ≡ 16
@@ -24,7 +25,21 @@ module _ (c : Contents) (l l₁ l₂ l₃ l₄ : List ℕ) where
       → l₄ ≡ sets l₃ (16 + 2 * length (c .program) + 2 * length (c .data-words)) (bytesOf (c .input)) → l₄ ≡ sets l 0 (fileOf c)
   unfolding fileOf
   file-put head program dataWords input =
-      rw (bytes-append (headWords c), sets-append (bytesOf (headWords c)), head-length, ← head, bytes-append (c .program), sets-append (bytesOf (c .program)), bytes-length (c .program), ← program, bytes-append (c .data-words), sets-append (bytesOf (c .data-words)), bytes-length (c .data-words), ← dataWords) input
+      rw (
+        bytes-append (headWords c),
+        sets-append (bytesOf (headWords c)),
+        head-length,
+        ← head,
+        bytes-append (c .program),
+        sets-append (bytesOf (c .program)),
+        bytes-length (c .program),
+        ← program,
+        bytes-append (c .data-words),
+        sets-append (bytesOf (c .data-words)),
+        bytes-length (c .data-words),
+        ← dataWords,
+      )
+      input
 
 module _ (c : Contents) (bytes : List ℕ) where
   pub write-rules : contentsFit c ≡ false → (FileRules ≡ writeAnswer c bytes) × (bytes ≡ written c bytes)

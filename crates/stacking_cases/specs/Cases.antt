@@ -2,7 +2,6 @@
 use mathlib.Core.List.{List, [], _∷_, _++_}
 use Prim.Native.Nat.{ℕ, _+_}
 use lib.ListN.{set, replicate}
-use Rattle.machine.specs.declared.Machine.{Machine}
 use Rattle.machine.specs.Cells.{withPm, withOvm}
 use Rattle.machine.specs.Reset.{resetMachine}
 use Rattle.steps.specs.World.{World, RunOutcome}

@@ -57,7 +57,11 @@ module _ (acc x ov : ℕ) where
 
 pub negated-is : (acc ov ovm : ℕ) → subtracted 0 acc ov ovm ≡ negated acc ov ovm
 unfolding subtracted negated noBorrow
-negated-is acc ov ovm = simp (eq-from (signed 32 0 -ℤ signed 32 acc) (negℤ (signed 32 acc)) (omega (arith, minus-is (signed 32 0) (signed 32 acc), neg-is (signed 32 acc), signed-is 32 0)), zero-test acc)
+negated-is acc ov ovm =
+    simp (
+      eq-from (signed 32 0 -ℤ signed 32 acc) (negℤ (signed 32 acc)) (omega (arith, minus-is (signed 32 0) (signed 32 acc), neg-is (signed 32 acc), signed-is 32 0)),
+      zero-test acc,
+    )
   where
     zero-test : (n : ℕ) → leb n 0 ≡ eqb n 0
     zero-test zero = refl

@@ -107,6 +107,7 @@ pub add-settled : (acc x ov ovm : ℕ) → settled (net (acc + x) (acc / 2 ^ 31 
 unfolding added carry
 add-settled acc x ov ovm = rw (add-net acc x)
 
-pub subtract-settled : (acc x ov ovm : ℕ) → acc < 2 ^ 32 → x < 2 ^ 32 → settled (net (acc + (2 ^ 32 - x)) (acc / 2 ^ 31 + (1 - x / 2 ^ 31))) ov ovm ((acc + (2 ^ 32 - x)) / 2 ^ 32) ≡ subtracted acc x ov ovm
+pub subtract-settled : (acc x ov ovm : ℕ) → acc < 2 ^ 32 → x < 2 ^ 32
+    → settled (net (acc + (2 ^ 32 - x)) (acc / 2 ^ 31 + (1 - x / 2 ^ 31))) ov ovm ((acc + (2 ^ 32 - x)) / 2 ^ 32) ≡ subtracted acc x ov ovm
 unfolding subtracted noBorrow
 subtract-settled acc x ov ovm h k = rw (subtract-net acc x k, no-borrow acc x h k)

@@ -5,7 +5,14 @@ use Rattle.addressing.proofs.modify.Tie as tie
 
 returns : tie.Need-returns
 unfolding modified
-returns c = rw (c .point .ensures, c .before .with-register .ensures, c .before .before .moved-register .ensures, c .before .before .before .register-of2 .ensures, c .before .before .before .before .register-of .ensures)
+returns c =
+    rw (
+      c .point .ensures,
+      c .before .with-register .ensures,
+      c .before .before .moved-register .ensures,
+      c .before .before .before .register-of2 .ensures,
+      c .before .before .before .before .register-of .ensures,
+    )
 
 pub modify-spec : {M : Type 1} → statement M
 modify-spec =

@@ -14,19 +14,50 @@ returns-2 c = simp (← c .before .before .before .is-addressed .ensures, c .bef
 
 returns-3 : tie.Need-returns-3
 unfolding placeOfKind
-returns-3 c = simp (← c .before .before .before .before .before .is-addressed .ensures, c .before .before .before .before .if1 .left, ← c .before .before .before .is-branch .ensures, c .before .before .if3 .taken, ← c .before .is-indirect .ensures, c .if4 .taken)
+returns-3 c =
+    simp (
+      ← c .before .before .before .before .before .is-addressed .ensures,
+      c .before .before .before .before .if1 .left,
+      ← c .before .before .before .is-branch .ensures,
+      c .before .before .if3 .taken,
+      ← c .before .is-indirect .ensures,
+      c .if4 .taken,
+    )
 
 returns-4 : tie.Need-returns-4
 unfolding placeOfKind
-returns-4 c = simp (← c .before .before .before .before .before .is-addressed .ensures, c .before .before .before .before .if1 .left, ← c .before .before .before .is-branch .ensures, c .before .before .if3 .taken, ← c .before .is-indirect .ensures, c .if4 .left)
+returns-4 c =
+    simp (
+      ← c .before .before .before .before .before .is-addressed .ensures,
+      c .before .before .before .before .if1 .left,
+      ← c .before .before .before .is-branch .ensures,
+      c .before .before .if3 .taken,
+      ← c .before .is-indirect .ensures,
+      c .if4 .left,
+    )
 
 returns-5 : tie.Need-returns-5
 unfolding placeOfKind
-returns-5 c = simp (← c .before .before .before .before .is-addressed .ensures, c .before .before .before .if1 .left, ← c .before .before .is-branch .ensures, c .before .if3 .left, lt-ltb _ _ (c .if5 .taken))
+returns-5 c =
+    simp (
+      ← c .before .before .before .before .is-addressed .ensures,
+      c .before .before .before .if1 .left,
+      ← c .before .before .is-branch .ensures,
+      c .before .if3 .left,
+      lt-ltb _ _ (c .if5 .taken),
+    )
 
 returns-6 : tie.Need-returns-6
 unfolding placeOfKind
-returns-6 c = simp (← c .before .before .before .before .before .is-addressed .ensures, c .before .before .before .before .if1 .left, ← c .before .before .before .is-branch .ensures, c .before .before .if3 .left, le-ltb _ _ (c .before .if5 .left)) (c .group-page .ensures)
+returns-6 c =
+    simp (
+      ← c .before .before .before .before .before .is-addressed .ensures,
+      c .before .before .before .before .if1 .left,
+      ← c .before .before .before .is-branch .ensures,
+      c .before .before .if3 .left,
+      le-ltb _ _ (c .before .if5 .left),
+    )
+    (c .group-page .ensures)
 
 pub page-of-spec : {M : Type 1} → statement M
 page-of-spec =

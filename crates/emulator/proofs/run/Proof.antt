@@ -48,7 +48,12 @@ is-done-requires-2 : tie.Need-is-done-requires-2 Inv-loop μ-loop
 is-done-requires-2 c κs = tt
 
 add-steps : tie.Need-add-steps Inv-loop μ-loop
-add-steps c = omega (arith, c .before .before .before .before .before .before .before .before .before .before .before .if2 .left, c .before .before .before .before .before .before .before .before .before .before .before .before .before .before .before .before .before .before .before .before .before .before .fits .budget)
+add-steps c =
+    omega (
+      arith,
+      c .before .before .before .before .before .before .before .before .before .before .before .if2 .left,
+      c .before .before .before .before .before .before .before .before .before .before .before .before .before .before .before .before .before .before .before .before .before .before .fits .budget,
+    )
 
 loop-again : tie.Need-loop-again Inv-loop μ-loop
 loop-again c =

@@ -11,7 +11,14 @@ returns c = rw (c .refuse .ensures, ← c .before .before .program-present .ensu
 
 returns-2 : tie.Need-returns-2
 unfolding fetchPlanBy planBy fetchRows
-returns-2 c = rw (c .plan-decoded .ensures, c .before .decode-by .ensures, c .before .before .program-word .ensures, ← c .before .before .before .before .program-present .ensures, c .before .before .before .if1 .left)
+returns-2 c =
+    rw (
+      c .plan-decoded .ensures,
+      c .before .decode-by .ensures,
+      c .before .before .program-word .ensures,
+      ← c .before .before .before .before .program-present .ensures,
+      c .before .before .before .if1 .left,
+    )
 
 pub plan-fetched-spec : {M : Type 1} → statement M
 plan-fetched-spec =

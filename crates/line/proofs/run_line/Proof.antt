@@ -4,7 +4,13 @@ use Rattle.line.proofs.run_line.Statement.{statement}
 use Rattle.line.proofs.run_line.Tie as tie
 
 returns : tie.Need-returns
-returns c = rw (line-of, ← c .before .before .before .before .before .before .words-sent .ensures .0, ← c .before .before .before .before .before .before .before .number .ensures) (c .before .before .fit-line .ensures)
+returns c =
+    rw (
+      line-of,
+      ← c .before .before .before .before .before .before .words-sent .ensures .0,
+      ← c .before .before .before .before .before .before .before .number .ensures,
+    )
+    (c .before .before .fit-line .ensures)
 
 pub run-line-spec : {M : Type 1} → statement M
 run-line-spec =

@@ -32,7 +32,10 @@ returns-7 : tie.Need-returns-7
 returns-7 c = rw (c .match .keys7) (page-means 48 _ _ (ap (λ (n : ℕ). auxiliary (Sbrk (n % 256))) (sym (div-one (c .before .before .args .w)))))
 
 returns-8 : tie.Need-returns-8
-returns-8 c = rw (last-key 42 7 (c .before .before .args .page) (c .match .rest) (search needs) (search needs)) (page-means 49 _ _ (ap (λ (n : ℕ). auxiliary (Ldpk (n % 512))) (sym (div-one (c .before .before .args .w)))))
+returns-8 c =
+    rw
+    (last-key 42 7 (c .before .before .args .page) (c .match .rest) (search needs) (search needs))
+    (page-means 49 _ _ (ap (λ (n : ℕ). auxiliary (Ldpk (n % 512))) (sym (div-one (c .before .before .args .w)))))
 
 pub auxiliary-page-spec : {M : Type 1} → statement M
 auxiliary-page-spec =

@@ -65,7 +65,10 @@ returns-18 : tie.Need-returns-18
 returns-18 c = rw (c .match .keys18) (page-means 40 _ _ refl)
 
 returns-19 : tie.Need-returns-19
-returns-19 c = rw (last-key 23 18 (c .before .before .args .page) (c .match .rest) (search needs) (search needs)) (page-means 41 _ _ (ap (λ (n : ℕ). multiplier (Spm (n % 4))) (sym (div-one (c .before .before .args .w)))))
+returns-19 c =
+    rw
+    (last-key 23 18 (c .before .before .args .page) (c .match .rest) (search needs) (search needs))
+    (page-means 41 _ _ (ap (λ (n : ℕ). multiplier (Spm (n % 4))) (sym (div-one (c .before .before .args .w)))))
 
 pub multiplier-page-spec : {M : Type 1} → statement M
 multiplier-page-spec =

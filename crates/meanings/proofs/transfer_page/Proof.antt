@@ -16,7 +16,10 @@ returns-2 : tie.Need-returns-2
 returns-2 c = rw (c .match .keys2) (page-means 63 _ _ (ap (λ (a : Address). transfers (In (c .before .before .args .w / 256 % 16) a)) (c .before .address-of .ensures)))
 
 returns-3 : tie.Need-returns-3
-returns-3 c = rw (last-key 62 2 (c .before .before .args .page) (c .match .rest) (search needs) (search needs)) (page-means 64 _ _ (ap (λ (a : Address). transfers (Out (c .before .before .args .w / 256 % 16) a)) (c .before .address-of .ensures)))
+returns-3 c =
+    rw
+    (last-key 62 2 (c .before .before .args .page) (c .match .rest) (search needs) (search needs))
+    (page-means 64 _ _ (ap (λ (a : Address). transfers (Out (c .before .before .args .w / 256 % 16) a)) (c .before .address-of .ensures)))
 
 pub transfer-page-spec : {M : Type 1} → statement M
 transfer-page-spec =

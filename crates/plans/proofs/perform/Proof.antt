@@ -6,7 +6,15 @@ use Rattle.plans.proofs.perform.Tie as tie
 
 returns : tie.Need-returns
 unfolding performed passedMachine passedWrite effectOf wordsRead memoryWords withPort
-returns c = rw (c .write-of .ensures, c .before .follow .ensures, c .before .before .before .rule .ensures, c .before .before .before .before .after-operand .ensures, c .before .before .before .before .before .words-read .ensures, ← c .before .before .before .before .before .before .before .before .before .pre)
+returns c =
+    rw (
+      c .write-of .ensures,
+      c .before .follow .ensures,
+      c .before .before .before .rule .ensures,
+      c .before .before .before .before .after-operand .ensures,
+      c .before .before .before .before .before .words-read .ensures,
+      ← c .before .before .before .before .before .before .before .before .before .pre,
+    )
 
 pub perform-spec : {M : Type 1} → statement M
 perform-spec =

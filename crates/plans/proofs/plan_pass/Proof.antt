@@ -4,10 +4,26 @@ use Rattle.plans.proofs.plan_pass.Statement.{statement}
 use Rattle.plans.proofs.plan_pass.Tie as tie
 
 returns : tie.Need-returns
-returns c = rw (c .perform .ensures, pass-plan, ← c .before .before .before .before .address-of .ensures, ← c .before .before .before .pass-refusal .ensures, ← c .before .before .is-done .ensures, c .before .if1 .taken)
+returns c =
+    rw (
+      c .perform .ensures,
+      pass-plan,
+      ← c .before .before .before .before .address-of .ensures,
+      ← c .before .before .before .pass-refusal .ensures,
+      ← c .before .before .is-done .ensures,
+      c .before .if1 .taken,
+    )
 
 returns-2 : tie.Need-returns-2
-returns-2 c = rw (c .refuse .ensures, pass-plan, ← c .before .before .before .before .address-of .ensures, ← c .before .before .before .pass-refusal .ensures, ← c .before .before .is-done .ensures, c .before .if1 .left)
+returns-2 c =
+    rw (
+      c .refuse .ensures,
+      pass-plan,
+      ← c .before .before .before .before .address-of .ensures,
+      ← c .before .before .before .pass-refusal .ensures,
+      ← c .before .before .is-done .ensures,
+      c .before .if1 .left,
+    )
 
 pub plan-pass-spec : {M : Type 1} → statement M
 plan-pass-spec =

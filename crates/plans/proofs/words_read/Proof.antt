@@ -6,7 +6,14 @@ use Rattle.plans.proofs.words_read.Tie as tie
 
 returns : tie.Need-returns
 unfolding wordsRead memoryWords
-returns c = rw (c .program-word .ensures, c .before .before .table-address .ensures, c .before .before .before .read-word .ensures, ← c .before .before .before .before .before .before .pre, c .before .if1 .taken)
+returns c =
+    rw (
+      c .program-word .ensures,
+      c .before .before .table-address .ensures,
+      c .before .before .before .read-word .ensures,
+      ← c .before .before .before .before .before .before .pre,
+      c .before .if1 .taken,
+    )
 
 returns-2 : tie.Need-returns-2
 unfolding wordsRead memoryWords

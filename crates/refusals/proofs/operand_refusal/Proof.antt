@@ -11,15 +11,40 @@ returns c = rw (← c .before .is-wrong-port .ensures, c .if1 .taken)
 
 returns-2 : tie.Need-returns-2
 unfolding firstGiven operandRows addressAbove dataAbsent
-returns-2 c = rw (← c .before .before .before .is-wrong-port .ensures, ← c .before .before .before .before .is-accessed .ensures, c .before .before .if1 .left, c .before .if2 .taken, lt-ltb _ _ (c .if3 .taken))
+returns-2 c =
+    rw (
+      ← c .before .before .before .is-wrong-port .ensures,
+      ← c .before .before .before .before .is-accessed .ensures,
+      c .before .before .if1 .left,
+      c .before .if2 .taken,
+      lt-ltb _ _ (c .if3 .taken),
+    )
 
 returns-3 : tie.Need-returns-3
 unfolding firstGiven operandRows addressAbove dataAbsent
-returns-3 c = rw (← c .before .before .before .before .before .is-wrong-port .ensures, ← c .before .before .before .before .before .before .is-accessed .ensures, ← c .before .is-present .ensures, c .before .before .before .before .if1 .left, c .before .before .before .if2 .taken, le-ltb _ _ (c .before .before .if3 .left), c .if4 .taken)
+returns-3 c =
+    rw (
+      ← c .before .before .before .before .before .is-wrong-port .ensures,
+      ← c .before .before .before .before .before .before .is-accessed .ensures,
+      ← c .before .is-present .ensures,
+      c .before .before .before .before .if1 .left,
+      c .before .before .before .if2 .taken,
+      le-ltb _ _ (c .before .before .if3 .left),
+      c .if4 .taken,
+    )
 
 returns-4 : tie.Need-returns-4
 unfolding firstGiven operandRows addressAbove dataAbsent
-returns-4 c = rw (← c .before .before .before .before .before .is-wrong-port .ensures, ← c .before .before .before .before .before .before .is-accessed .ensures, ← c .before .is-present .ensures, c .before .before .before .before .if1 .left, c .before .before .before .if2 .taken, le-ltb _ _ (c .before .before .if3 .left), c .if4 .left)
+returns-4 c =
+    rw (
+      ← c .before .before .before .before .before .is-wrong-port .ensures,
+      ← c .before .before .before .before .before .before .is-accessed .ensures,
+      ← c .before .is-present .ensures,
+      c .before .before .before .before .if1 .left,
+      c .before .before .before .if2 .taken,
+      le-ltb _ _ (c .before .before .if3 .left),
+      c .if4 .left,
+    )
 
 returns-5 : tie.Need-returns-5
 unfolding firstGiven operandRows addressAbove dataAbsent

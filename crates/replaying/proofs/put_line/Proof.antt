@@ -10,11 +10,16 @@ replay-accepted-requires c κs = told (c .before .before .before .read-answer .e
 
 returns : tie.Need-returns
 returns c =
-    placed-whole _ _ (λ i. omega (arith, c .before .before .before .before .before .before .before .before .shared-slice-known .given i .fits)) (c .before .before .before .before .before .before .before .before .before .pre) (c .before .before .replay-accepted .ensures)
+    placed-whole _ _
+    (λ i. omega (arith, c .before .before .before .before .before .before .before .before .shared-slice-known .given i .fits))
+    (c .before .before .before .before .before .before .before .before .before .pre)
+    (c .before .before .replay-accepted .ensures)
 
 returns-2 : tie.Need-returns-2
 returns-2 c =
-    placed-whole _ _ (λ i. omega (arith, c .before .before .before .before .before .before .before .before .shared-slice-known .given i .fits)) (c .before .before .before .before .before .before .before .before .before .pre)
+    placed-whole _ _
+    (λ i. omega (arith, c .before .before .before .before .before .before .before .before .shared-slice-known .given i .fits))
+    (c .before .before .before .before .before .before .before .before .before .pre)
     (placed-as _ (rw (c .before .before .before .before .before .before .read-answer .ensures) (refused-replay _ (told (c .before .before .before .before .before .before .read-answer .ensures) (c .before .before .before .before .before .is-done .ensures) (c .before .before .before .before .if1 .left)))) (c .before .before .refused-line .ensures))
 
 pub put-line-spec : {M : Type 1} → statement M

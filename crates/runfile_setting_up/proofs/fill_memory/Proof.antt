@@ -4,7 +4,11 @@ use Rattle.runfile_setting_up.proofs.fill_memory.Statement.{statement}
 use Rattle.runfile_setting_up.proofs.fill_memory.Tie as tie
 
 returns : tie.Need-returns
-returns c = memory-filled _ _ _ _ _ _ (c .before .before .before .before .before .before .before .before .before .before .pre .1) (c .before .before .before .before .before .before .clear .ensures) (c .before .before .load-words .ensures)
+returns c =
+    memory-filled _ _ _ _ _ _
+    (c .before .before .before .before .before .before .before .before .before .before .pre .1)
+    (c .before .before .before .before .before .before .clear .ensures)
+    (c .before .before .load-words .ensures)
 
 pub fill-memory-spec : {M : Type 1} → statement M
 fill-memory-spec =

@@ -14,7 +14,13 @@ load-words-requires : tie.Need-load-words-requires
 load-words-requires c κs = let d = c .before .before .before .before .before .before .before .before .before .before .before .before .before .before .pre in let e = c .before .before .before .before .before .before .before .before .before .numbers-of .ensures in rw e (omega arith, omega arith)
 
 returns : tie.Need-returns
-returns c = sections-stored _ _ _ _ _ _ (c .before .before .before .before .before .before .before .before .before .before .before .before .before .before .before .before .before .pre .input-size) (c .before .before .before .before .before .before .before .before .before .before .before .before .numbers-of .ensures) (c .before .before .before .before .before .before .before .before .before .before .fill-memory .ensures) (c .before .before .before .before .before .before .fill-memory2 .ensures) (c .before .before .load-words .ensures)
+returns c =
+    sections-stored _ _ _ _ _ _
+    (c .before .before .before .before .before .before .before .before .before .before .before .before .before .before .before .before .before .pre .input-size)
+    (c .before .before .before .before .before .before .before .before .before .before .before .before .numbers-of .ensures)
+    (c .before .before .before .before .before .before .before .before .before .before .fill-memory .ensures)
+    (c .before .before .before .before .before .before .fill-memory2 .ensures)
+    (c .before .before .load-words .ensures)
 
 pub load-file-spec : {M : Type 1} → statement M
 load-file-spec =

@@ -11,7 +11,9 @@ returns : tie.Need-returns
 returns c = (c .before .before .set-up-answer .ensures, rw (set-up-kept _ _ (told (c .before .before .set-up-answer .ensures) (c .before .is-done .ensures) (not-true _ (c .if1 .taken)))) (refl, (refl, refl)))
 
 load-file-requires : tie.Need-load-file-requires
-load-file-requires c κs = set-up-done _ _ (told (c .before .before .before .before .before .set-up-answer .ensures) (c .before .before .before .before .is-done .ensures) (not-false _ (c .before .before .before .if1 .left)))
+load-file-requires c κs =
+    set-up-done _ _
+    (told (c .before .before .before .before .before .set-up-answer .ensures) (c .before .before .before .before .is-done .ensures) (not-false _ (c .before .before .before .if1 .left)))
 
 returns-2 : tie.Need-returns-2
 returns-2 c = (c .before .before .before .before .before .before .before .before .before .before .before .before .set-up-answer .ensures, set-up-stored _ _ (lent _ _ _) (told (c .before .before .before .before .before .before .before .before .before .before .before .before .set-up-answer .ensures) (c .before .before .before .before .before .before .before .before .before .before .before .is-done .ensures) (not-false _ (c .before .before .before .before .before .before .before .before .before .before .if1 .left))) (c .before .before .before .before .before .before .load-file .ensures))

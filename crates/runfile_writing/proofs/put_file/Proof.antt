@@ -23,7 +23,12 @@ put-words-requires-4 c κs = omega arith
 
 returns : tie.Need-returns
 unfolding headWords
-returns c = file-put _ _ _ _ _ _ (c .before .before .before .before .before .before .before .before .before .before .before .before .before .before .put-words .ensures) (c .before .before .before .before .before .before .before .before .before .before .put-words2 .ensures) (c .before .before .before .before .before .before .put-words3 .ensures) (c .before .before .put-words4 .ensures)
+returns c =
+    file-put _ _ _ _ _ _
+    (c .before .before .before .before .before .before .before .before .before .before .before .before .before .before .put-words .ensures)
+    (c .before .before .before .before .before .before .before .before .before .before .put-words2 .ensures)
+    (c .before .before .before .before .before .before .put-words3 .ensures)
+    (c .before .before .put-words4 .ensures)
 
 pub put-file-spec : {M : Type 1} → statement M
 put-file-spec =

@@ -15,7 +15,11 @@ put-file-requires c κs = (c .before .before .before .before .before .before .be
 
 returns-2 : tie.Need-returns-2
 unfolding contentsFit
-returns-2 c = write-done _ _ _ (counts-kept _ _ _ (c .before .before .before .before .before .before .before .before .before .before .pre)) (rw file-length (omega arith)) (c .before .before .put-file .ensures)
+returns-2 c =
+    write-done _ _ _
+    (counts-kept _ _ _ (c .before .before .before .before .before .before .before .before .before .before .pre))
+    (rw file-length (omega arith))
+    (c .before .before .put-file .ensures)
 
 pub write-within-limits-spec : {M : Type 1} → statement M
 write-within-limits-spec =

@@ -7,7 +7,11 @@ use Rattle.stores.proofs.write_of.Statement.{statement}
 use Rattle.stores.proofs.write_of.Tie as tie
 
 add-t10 : tie.Need-add-t10
-add-t10 c = omega (arith, moves (c .before .before .before .before .before .args .cnf) (c .before .before .before .before .before .args .address) (sym (c .before .is-movable .ensures) ∙ c .if1 .taken) .below)
+add-t10 c =
+    omega (
+      arith,
+      moves (c .before .before .before .before .before .args .cnf) (c .before .before .before .before .before .args .address) (sym (c .before .is-movable .ensures) ∙ c .if1 .taken) .below,
+    )
 
 returns : tie.Need-returns
 unfolding writeOf

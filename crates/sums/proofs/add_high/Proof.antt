@@ -4,10 +4,14 @@ use Rattle.sums.proofs.add_high.Statement.{statement}
 use Rattle.sums.proofs.add_high.Tie as tie
 
 returns : tie.Need-returns
-returns c = rw (c .before .before .add .ensures, c .before .before .before .in-high-half .ensures) (add-high-sets _ _ _ _ _ (rw (c .before .before .add .ensures, c .before .before .before .in-high-half .ensures) at (c .if1 .taken)))
+returns c =
+    rw (c .before .before .add .ensures, c .before .before .before .in-high-half .ensures)
+    (add-high-sets _ _ _ _ _ (rw (c .before .before .add .ensures, c .before .before .before .in-high-half .ensures) at (c .if1 .taken)))
 
 returns-2 : tie.Need-returns-2
-returns-2 c = rw (c .before .before .add .ensures, c .before .before .before .in-high-half .ensures) (add-high-keeps _ _ _ _ _ (rw (c .before .before .add .ensures, c .before .before .before .in-high-half .ensures) at (c .if1 .left)))
+returns-2 c =
+    rw (c .before .before .add .ensures, c .before .before .before .in-high-half .ensures)
+    (add-high-keeps _ _ _ _ _ (rw (c .before .before .add .ensures, c .before .before .before .in-high-half .ensures) at (c .if1 .left)))
 
 pub add-high-spec : {M : Type 1} → statement M
 add-high-spec =

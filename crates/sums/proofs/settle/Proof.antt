@@ -5,7 +5,9 @@ use Rattle.sums.proofs.settle.Statement.{statement}
 use Rattle.sums.proofs.settle.Tie as tie
 
 returns : tie.Need-returns
-returns c = rw (c .overflow-flag .ensures, c .before .held-word .ensures) (settles (c .before .before .args .m) (c .before .before .args .less) (c .before .before .args .ov) (c .before .before .args .ovm) (c .before .before .args .c) _ _ refl refl)
+returns c =
+    rw (c .overflow-flag .ensures, c .before .held-word .ensures)
+    (settles (c .before .before .args .m) (c .before .before .args .less) (c .before .before .args .ov) (c .before .before .args .ovm) (c .before .before .args .c) _ _ refl refl)
 
 pub settle-spec : {M : Type 1} → statement M
 settle-spec =

@@ -4,10 +4,14 @@ use Rattle.sums.proofs.subtract_high.Statement.{statement}
 use Rattle.sums.proofs.subtract_high.Tie as tie
 
 returns : tie.Need-returns
-returns c = rw (c .before .before .subtract .ensures, c .before .before .before .in-high-half .ensures) (subtract-high-resets _ _ _ _ _ (rw (c .before .before .subtract .ensures, c .before .before .before .in-high-half .ensures) at (c .if1 .taken)))
+returns c =
+    rw (c .before .before .subtract .ensures, c .before .before .before .in-high-half .ensures)
+    (subtract-high-resets _ _ _ _ _ (rw (c .before .before .subtract .ensures, c .before .before .before .in-high-half .ensures) at (c .if1 .taken)))
 
 returns-2 : tie.Need-returns-2
-returns-2 c = rw (c .before .before .subtract .ensures, c .before .before .before .in-high-half .ensures) (subtract-high-keeps _ _ _ _ _ (rw (c .before .before .subtract .ensures, c .before .before .before .in-high-half .ensures) at (c .if1 .left)))
+returns-2 c =
+    rw (c .before .before .subtract .ensures, c .before .before .before .in-high-half .ensures)
+    (subtract-high-keeps _ _ _ _ _ (rw (c .before .before .subtract .ensures, c .before .before .before .in-high-half .ensures) at (c .if1 .left)))
 
 pub subtract-high-spec : {M : Type 1} → statement M
 subtract-high-spec =

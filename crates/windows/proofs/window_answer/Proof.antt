@@ -15,11 +15,21 @@ returns-2 c = simp (sym (c .before .before .before .in-range .ensures) ∙ not-f
 
 returns-3 : tie.Need-returns-3
 unfolding windowAnswer
-returns-3 c = simp (sym (c .before .before .before .before .before .in-range .ensures) ∙ not-false _ (c .before .before .before .before .if1 .left), sym (c .before .before .before .memories-fit .ensures) ∙ not-false _ (c .before .before .if2 .left), sym (c .before .program-present .ensures) ∙ not-true _ (c .if3 .taken))
+returns-3 c =
+    simp (
+      sym (c .before .before .before .before .before .in-range .ensures) ∙ not-false _ (c .before .before .before .before .if1 .left),
+      sym (c .before .before .before .memories-fit .ensures) ∙ not-false _ (c .before .before .if2 .left),
+      sym (c .before .program-present .ensures) ∙ not-true _ (c .if3 .taken),
+    )
 
 returns-4 : tie.Need-returns-4
 unfolding windowAnswer
-returns-4 c = simp (sym (c .before .before .before .before .before .in-range .ensures) ∙ not-false _ (c .before .before .before .before .if1 .left), sym (c .before .before .before .memories-fit .ensures) ∙ not-false _ (c .before .before .if2 .left), sym (c .before .program-present .ensures) ∙ not-false _ (c .if3 .left))
+returns-4 c =
+    simp (
+      sym (c .before .before .before .before .before .in-range .ensures) ∙ not-false _ (c .before .before .before .before .if1 .left),
+      sym (c .before .before .before .memories-fit .ensures) ∙ not-false _ (c .before .before .if2 .left),
+      sym (c .before .program-present .ensures) ∙ not-false _ (c .if3 .left),
+    )
 
 pub window-answer-spec : {M : Type 1} → statement M
 window-answer-spec =

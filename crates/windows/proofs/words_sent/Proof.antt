@@ -8,7 +8,10 @@ use Rattle.windows.proofs.words_sent.Statement.{statement}
 use Rattle.windows.proofs.words_sent.Tie as tie
 
 slice-aggregate-result : tie.Need-slice-aggregate-result
-slice-aggregate-result c = sym (length-take-le _ _ (sent-done _ _ (sym (c .before .before .before .is-done .ensures ∙ ap isDone (c .before .before .before .before .words-sent-answer .ensures)) ∙ c .before .before .if1 .taken) .port .not-past))
+slice-aggregate-result c =
+    sym
+    (length-take-le _ _
+    (sent-done _ _ (sym (c .before .before .before .is-done .ensures ∙ ap isDone (c .before .before .before .before .words-sent-answer .ensures)) ∙ c .before .before .if1 .taken) .port .not-past))
 
 returns : tie.Need-returns
 unfolding wordsSent

@@ -13,7 +13,12 @@ put-line-requires : tie.Need-put-line-requires
 put-line-requires c κs = line-room _ _ _ _ _ _ _ (c .before .before .cells-length .ensures) (c .before .before .before .if1 .left) (c .before .if2 .left)
 
 returns-3 : tie.Need-returns-3
-returns-3 c = line-put _ _ _ _ _ _ _ (c .before .before .before .before .before .cells-length .ensures) (c .before .before .before .before .before .before .if1 .left) (c .before .before .before .before .if2 .left) (c .before .before .put-line .ensures)
+returns-3 c =
+    line-put _ _ _ _ _ _ _
+    (c .before .before .before .before .before .cells-length .ensures)
+    (c .before .before .before .before .before .before .if1 .left)
+    (c .before .before .before .before .if2 .left)
+    (c .before .before .put-line .ensures)
 
 pub fit-line-spec : {M : Type 1} → statement M
 fit-line-spec =

@@ -12,7 +12,17 @@ returns : tie.Need-returns
 returns c = line-kept _ _ (omega (arith, number-length (c .before .before .before .args .n) (c .before .before .before .args .end), c .before .decimal-length .ensures, c .if1 .taken))
 
 returns-2 : tie.Need-returns-2
-returns-2 c = line-done _ _ (omega (arith, number-length (c .before .before .before .before .before .before .before .before .before .before .before .args .n) (c .before .before .before .before .before .before .before .before .before .before .before .args .end), c .before .before .before .before .before .before .before .before .before .decimal-length .ensures, c .before .before .before .before .before .before .before .before .if1 .left)) (put-then (c .before .before .before .before .before .before .put-decimal .ensures) (c .before .before .put-byte .ensures))
+returns-2 c =
+    line-done _ _
+    (omega (
+      arith,
+      number-length
+          (c .before .before .before .before .before .before .before .before .before .before .before .args .n)
+          (c .before .before .before .before .before .before .before .before .before .before .before .args .end),
+      c .before .before .before .before .before .before .before .before .before .decimal-length .ensures,
+      c .before .before .before .before .before .before .before .before .if1 .left,
+    ))
+    (put-then (c .before .before .before .before .before .before .put-decimal .ensures) (c .before .before .put-byte .ensures))
 
 pub fit-number-spec : {M : Type 1} → statement M
 fit-number-spec =

@@ -10,10 +10,19 @@ put-words-requires : tie.Need-put-words-requires
 put-words-requires c κs = sent-room _ _ _ _ _ _ (c .before .before .before .before .before .before .before .pre) (c .before .before .before .put-cells .ensures)
 
 put-byte-requires : tie.Need-put-byte-requires
-put-byte-requires c κs = newline-room _ _ _ _ _ _ (c .before .before .before .before .before .before .before .before .before .before .before .pre) (c .before .before .before .before .before .before .before .put-cells .ensures) (c .before .before .before .put-words .ensures)
+put-byte-requires c κs =
+    newline-room _ _ _ _ _ _
+    (c .before .before .before .before .before .before .before .before .before .before .before .pre)
+    (c .before .before .before .before .before .before .before .put-cells .ensures)
+    (c .before .before .before .put-words .ensures)
 
 returns : tie.Need-returns
-returns c = whole-put _ _ _ _ _ _ (c .before .before .before .before .before .before .before .before .before .before .before .before .before .before .pre) (c .before .before .before .before .before .before .before .before .before .before .put-cells .ensures) (c .before .before .before .before .before .before .put-words .ensures) (c .before .before .put-byte .ensures)
+returns c =
+    whole-put _ _ _ _ _ _
+    (c .before .before .before .before .before .before .before .before .before .before .before .before .before .before .pre)
+    (c .before .before .before .before .before .before .before .before .before .before .put-cells .ensures)
+    (c .before .before .before .before .before .before .put-words .ensures)
+    (c .before .before .put-byte .ensures)
 
 pub put-line-spec : {M : Type 1} → statement M
 put-line-spec =

@@ -91,7 +91,11 @@ put-decimal-put-byte-requires-2 : (t : ℕ) → put-decimal-lts.Need-put-byte-re
   put-decimal-below t,
   put-decimal.Post,
 ) (put-decimal-at t) put-decimal.Post
-put-decimal-put-byte-requires-2 t c κs = last-room _ _ (c .before .before .before .before .before .before .if1 .left) (c .before .before .before .before .before .before .before .before .pre .1) (c .before .before .before .before .put-decimal .ensures)
+put-decimal-put-byte-requires-2 t c κs =
+    last-room _ _
+    (c .before .before .before .before .before .before .if1 .left)
+    (c .before .before .before .before .before .before .before .before .pre .1)
+    (c .before .before .before .before .put-decimal .ensures)
 
 put-decimal-same-length-2 : (t : ℕ) → put-decimal-lts.Need-same-length-2 (
   digit-reads.Asked,
@@ -111,7 +115,12 @@ put-decimal-returns-2 : (t : ℕ) → put-decimal-lts.Need-returns-2 (
   put-decimal-below t,
   put-decimal.Post,
 ) (put-decimal-at t) put-decimal.Post
-put-decimal-returns-2 t c = last-put _ (c .before .before .before .before .before .before .before .before .before .if1 .left) (c .before .before .before .digit2 .ensures) (c .before .before .before .before .before .before .before .put-decimal .ensures) (c .before .before .put-byte2 .ensures)
+put-decimal-returns-2 t c =
+    last-put _
+    (c .before .before .before .before .before .before .before .before .before .if1 .left)
+    (c .before .before .before .digit2 .ensures)
+    (c .before .before .before .before .before .before .before .put-decimal .ensures)
+    (c .before .before .put-byte2 .ensures)
 
 pub +put-decimal-spec : {M : Type 1} → statement M
 +put-decimal-spec = close μ-put-decimal λ t. put-decimal-lts.spec (

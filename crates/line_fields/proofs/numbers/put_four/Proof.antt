@@ -18,7 +18,16 @@ put-byte-requires-4 : tie.Need-put-byte-requires-4
 put-byte-requires-4 c κs = record { fits = omega (arith, c .before .before .before .before .before .before .before .before .before .before .before .before .before .before .before .before .before .before .pre .fits, hexadecimal-length 4 (c .before .before .before .before .before .before .before .before .before .before .before .before .before .before .before .before .before .before .args .n), c .before .before .before .before .before .before .before .before .before .before .before .put-byte .ensures .ends, put-length (c .before .before .before .before .before .before .before .before .before .before .before .put-byte .ensures), c .before .before .before .before .before .before .before .put-byte2 .ensures .ends, put-length (c .before .before .before .before .before .before .before .put-byte2 .ensures), c .before .before .before .put-byte3 .ensures .ends, put-length (c .before .before .before .put-byte3 .ensures)) }
 
 returns : tie.Need-returns
-returns c = four-put _ (c .before .before .before .before .before .before .before .before .before .before .before .before .before .before .before .before .before .before .before .digit .ensures) (c .before .before .before .before .before .before .before .before .before .before .before .before .before .before .before .before .before .before .digit2 .ensures) (c .before .before .before .before .before .before .before .before .before .before .before .before .before .before .before .before .before .digit3 .ensures) (c .before .before .before .before .before .before .before .before .before .before .before .before .before .before .before .before .digit4 .ensures) (c .before .before .before .before .before .before .before .before .before .before .before .before .before .before .put-byte .ensures) (c .before .before .before .before .before .before .before .before .before .before .put-byte2 .ensures) (c .before .before .before .before .before .before .put-byte3 .ensures) (c .before .before .put-byte4 .ensures)
+returns c =
+    four-put _
+    (c .before .before .before .before .before .before .before .before .before .before .before .before .before .before .before .before .before .before .before .digit .ensures)
+    (c .before .before .before .before .before .before .before .before .before .before .before .before .before .before .before .before .before .before .digit2 .ensures)
+    (c .before .before .before .before .before .before .before .before .before .before .before .before .before .before .before .before .before .digit3 .ensures)
+    (c .before .before .before .before .before .before .before .before .before .before .before .before .before .before .before .before .digit4 .ensures)
+    (c .before .before .before .before .before .before .before .before .before .before .before .before .before .before .put-byte .ensures)
+    (c .before .before .before .before .before .before .before .before .before .before .put-byte2 .ensures)
+    (c .before .before .before .before .before .before .put-byte3 .ensures)
+    (c .before .before .put-byte4 .ensures)
 
 pub put-four-spec : {M : Type 1} → statement M
 put-four-spec =

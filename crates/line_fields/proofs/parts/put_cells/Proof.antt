@@ -10,16 +10,38 @@ put-decimal-field-requires : tie.Need-put-decimal-field-requires
 put-decimal-field-requires c κs = steps-room _ _ _ _ _ (c .before .before .before .before .before .before .pre) (c .before .before .before .put-decimal .ensures)
 
 put-word-field-requires : tie.Need-put-word-field-requires
-put-word-field-requires c κs = pc-room _ _ _ _ _ (c .before .before .before .before .before .before .before .before .before .before .pre) (c .before .before .before .before .before .before .before .put-decimal .ensures) (c .before .before .before .put-decimal-field .ensures)
+put-word-field-requires c κs =
+    pc-room _ _ _ _ _
+    (c .before .before .before .before .before .before .before .before .before .before .pre)
+    (c .before .before .before .before .before .before .before .put-decimal .ensures)
+    (c .before .before .before .put-decimal-field .ensures)
 
 put-long-field-requires : tie.Need-put-long-field-requires
-put-long-field-requires c κs = acc-room _ _ _ _ _ (c .before .before .before .before .before .before .before .before .before .before .before .before .before .before .pre) (c .before .before .before .before .before .before .before .before .before .before .before .put-decimal .ensures) (c .before .before .before .before .before .before .before .put-decimal-field .ensures) (c .before .before .before .put-word-field .ensures)
+put-long-field-requires c κs =
+    acc-room _ _ _ _ _
+    (c .before .before .before .before .before .before .before .before .before .before .before .before .before .before .pre)
+    (c .before .before .before .before .before .before .before .before .before .before .before .put-decimal .ensures)
+    (c .before .before .before .before .before .before .before .put-decimal-field .ensures)
+    (c .before .before .before .put-word-field .ensures)
 
 put-decimal-field-requires-2 : tie.Need-put-decimal-field-requires-2
-put-decimal-field-requires-2 c κs = ov-room _ _ _ _ _ (c .before .before .before .before .before .before .before .before .before .before .before .before .before .before .before .before .before .before .pre) (c .before .before .before .before .before .before .before .before .before .before .before .before .before .before .before .put-decimal .ensures) (c .before .before .before .before .before .before .before .before .before .before .before .put-decimal-field .ensures) (c .before .before .before .before .before .before .before .put-word-field .ensures) (c .before .before .before .put-long-field .ensures)
+put-decimal-field-requires-2 c κs =
+    ov-room _ _ _ _ _
+    (c .before .before .before .before .before .before .before .before .before .before .before .before .before .before .before .before .before .before .pre)
+    (c .before .before .before .before .before .before .before .before .before .before .before .before .before .before .before .put-decimal .ensures)
+    (c .before .before .before .before .before .before .before .before .before .before .before .put-decimal-field .ensures)
+    (c .before .before .before .before .before .before .before .put-word-field .ensures)
+    (c .before .before .before .put-long-field .ensures)
 
 returns : tie.Need-returns
-returns c = cells-put _ _ _ _ _ (c .before .before .before .before .before .before .before .before .before .before .before .before .before .before .before .before .before .before .before .before .before .pre) (c .before .before .before .before .before .before .before .before .before .before .before .before .before .before .before .before .before .before .put-decimal .ensures) (c .before .before .before .before .before .before .before .before .before .before .before .before .before .before .put-decimal-field .ensures) (c .before .before .before .before .before .before .before .before .before .before .put-word-field .ensures) (c .before .before .before .before .before .before .put-long-field .ensures) (c .before .before .put-decimal-field2 .ensures)
+returns c =
+    cells-put _ _ _ _ _
+    (c .before .before .before .before .before .before .before .before .before .before .before .before .before .before .before .before .before .before .before .before .before .pre)
+    (c .before .before .before .before .before .before .before .before .before .before .before .before .before .before .before .before .before .before .put-decimal .ensures)
+    (c .before .before .before .before .before .before .before .before .before .before .before .before .before .before .put-decimal-field .ensures)
+    (c .before .before .before .before .before .before .before .before .before .before .put-word-field .ensures)
+    (c .before .before .before .before .before .before .put-long-field .ensures)
+    (c .before .before .put-decimal-field2 .ensures)
 
 pub put-cells-spec : {M : Type 1} → statement M
 put-cells-spec =

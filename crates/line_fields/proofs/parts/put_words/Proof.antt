@@ -16,10 +16,17 @@ loop-holds : tie.Need-loop-holds Inv-loop μ-loop
 loop-holds c = words-none _ _ _
 
 put-word-field-requires : tie.Need-put-word-field-requires Inv-loop μ-loop
-put-word-field-requires c κs = rw (c .wide .ensures) (words-room (c .before .before .before .before .loop .inv) (c .before .before .before .before .before .before .before .pre) (c .before .before .before .loop-test .taken))
+put-word-field-requires c κs =
+    rw
+    (c .wide .ensures)
+    (words-room (c .before .before .before .before .loop .inv) (c .before .before .before .before .before .before .before .pre) (c .before .before .before .loop-test .taken))
 
 loop-again : tie.Need-loop-again Inv-loop μ-loop
-loop-again c = words-more (c .before .before .before .before .before .before .before .loop .inv) (c .before .before .before .before .before .before .loop-test .taken) (rw (c .before .before .before .wide .ensures) at (c .before .before .put-word-field .ensures))
+loop-again c =
+    words-more
+    (c .before .before .before .before .before .before .before .loop .inv)
+    (c .before .before .before .before .before .before .loop-test .taken)
+    (rw (c .before .before .before .wide .ensures) at (c .before .before .put-word-field .ensures))
 
 same-length : tie.Need-same-length Inv-loop μ-loop
 same-length c = put-length (c .before .loop .inv .so-far)

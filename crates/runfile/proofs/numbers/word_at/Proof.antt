@@ -6,7 +6,11 @@ use Rattle.runfile.proofs.numbers.word_at.Statement.{statement}
 use Rattle.runfile.proofs.numbers.word_at.Tie as tie
 
 returns : tie.Need-returns
-returns c = rw (List·getD-eq-default (c .before .before .args .bytes .now) 0 (c .if1 .taken), List·getD-eq-default (c .before .before .args .bytes .now) 0 {n = c .before .before .args .at + 1} (omega arith))
+returns c =
+    rw (
+      List·getD-eq-default (c .before .before .args .bytes .now) 0 (c .if1 .taken),
+      List·getD-eq-default (c .before .before .args .bytes .now) 0 {n = c .before .before .args .at + 1} (omega arith),
+    )
 
 pub word-at-spec : {M : Type 1} → statement M
 word-at-spec =

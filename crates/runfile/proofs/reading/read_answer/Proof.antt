@@ -14,11 +14,25 @@ returns-2 c = simp (le-ltb _ _ (c .before .before .before .if1 .left), ← c .be
 
 returns-3 : tie.Need-returns-3
 unfolding readAnswer
-returns-3 c = simp (le-ltb _ _ (c .before .before .before .before .before .if1 .left), ← c .before .before .before .before .numbers-of .ensures, eq-eqb _ _ (c .before .before .if2 .left), ← c .before .rules-kept .ensures, c .if3 .taken)
+returns-3 c =
+    simp (
+      le-ltb _ _ (c .before .before .before .before .before .if1 .left),
+      ← c .before .before .before .before .numbers-of .ensures,
+      eq-eqb _ _ (c .before .before .if2 .left),
+      ← c .before .rules-kept .ensures,
+      c .if3 .taken,
+    )
 
 returns-4 : tie.Need-returns-4
 unfolding readAnswer
-returns-4 c = simp (le-ltb _ _ (c .before .before .before .before .before .if1 .left), ← c .before .before .before .before .numbers-of .ensures, eq-eqb _ _ (c .before .before .if2 .left), ← c .before .rules-kept .ensures, c .if3 .left)
+returns-4 c =
+    simp (
+      le-ltb _ _ (c .before .before .before .before .before .if1 .left),
+      ← c .before .before .before .before .numbers-of .ensures,
+      eq-eqb _ _ (c .before .before .if2 .left),
+      ← c .before .rules-kept .ensures,
+      c .if3 .left,
+    )
 
 pub read-answer-spec : {M : Type 1} → statement M
 read-answer-spec =

@@ -6,7 +6,11 @@ use Rattle.words.proofs.logic.xor_low.Statement.{statement}
 use Rattle.words.proofs.logic.xor_low.Tie as tie
 
 returns : tie.Need-returns
-returns c = c .from-halves .ensures ∙ rw (c .before .before .high-half .ensures) (xor-is (c .before .before .before .args .acc) (c .before .before .before .args .w) (c .before .low-half .result) (c .before .low-half .ensures) (omega arith))
+returns c =
+    c .from-halves .ensures
+    ∙ rw
+    (c .before .before .high-half .ensures)
+    (xor-is (c .before .before .before .args .acc) (c .before .before .before .args .w) (c .before .low-half .result) (c .before .low-half .ensures) (omega arith))
 
 pub xor-low-spec : {M : Type 1} → statement M
 xor-low-spec =

@@ -1,0 +1,1 @@
+// Laws of tests and of runs of stores, in specs/ alone.
