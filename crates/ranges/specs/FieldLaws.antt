@@ -16,6 +16,7 @@ use Rattle.instructions.specs.Decode.{decodeOf}
 use Rattle.machine.specs.declared.Machine.{Machine}
 use Rattle.board.specs.Windows.{programWord}
 use Rattle.board.specs.Given.{Given}
+use Rattle.pages.specs.Traits.{traitsOf, accumulatorTraits, multiplierTraits, auxiliaryTraits, branchesTraits, transfersTraits, modesTraits}
 use Rattle.steps.specs.Table.{decodedAt}
 use Rattle.laws.specs.Steps.{_and_}
 use Rattle.ranges.specs.Fields.{NextFits, IndirectFits, AddressFits, FieldsFit, DecodedFits}
@@ -50,22 +51,20 @@ unfolding RowsFit
 joined [] b f g = g
 joined (r ∷ a) b f g = f .0 and joined a b (f .1) g
 
--- a page with no field, with an operand alone, or with a branch's
-no-field : ℕ → Unit {0}
-no-field w = tt
+-- a page with no operand and no constant that is put into a cell; with an operand, or a branch's; with such a constant below a limit
+no-field : ℕ → Unit {0} × Unit {0}
+no-field w = (tt, tt)
 
-operand : (w : ℕ) → AddressFits (addressModeOf (w % 256))
-operand w = address-fits (w % 256)
+operand : (w : ℕ) → AddressFits (addressModeOf (w % 256)) × Unit {0}
+operand w = (address-fits (w % 256), tt)
 
-indirect : (w : ℕ) → IndirectFits (indirectOf (w % 256))
-indirect w = indirect-fits (w % 256)
+indirect : (w : ℕ) → IndirectFits (indirectOf (w % 256)) × Unit {0}
+indirect w = (indirect-fits (w % 256), tt)
 
 accumulator-pages : RowsFit accumulatorPages
-unfolding RowsFit
+unfolding RowsFit traitsOf accumulatorTraits
 accumulator-pages =
-    (λ w. (omega arith, operand w))
-    and (λ w. (omega arith, operand w))
-    and (λ w. (omega arith, operand w))
+    operand
     and operand
     and operand
     and operand
@@ -76,11 +75,13 @@ accumulator-pages =
     and operand
     and operand
     and operand
-    and (λ w. (omega arith, operand w))
-    and (λ w. (omega arith, operand w))
-    and (λ w. omega arith)
-    and (λ w. omega arith)
-    and (λ w. omega arith)
+    and operand
+    and operand
+    and operand
+    and operand
+    and (λ w. (tt, omega arith))
+    and (λ w. (tt, omega arith))
+    and no-field
     and no-field
     and no-field
     and no-field
@@ -89,7 +90,7 @@ accumulator-pages =
     and tt
 
 multiplier-pages : RowsFit multiplierPages
-unfolding RowsFit
+unfolding RowsFit traitsOf multiplierTraits
 multiplier-pages =
     operand
     and operand
@@ -105,28 +106,28 @@ multiplier-pages =
     and operand
     and operand
     and operand
-    and (λ w. omega arith)
     and no-field
     and no-field
     and no-field
-    and (λ w. omega arith)
+    and no-field
+    and (λ w. (tt, omega arith))
     and tt
 
 auxiliary-pages : RowsFit auxiliaryPages
-unfolding RowsFit
+unfolding RowsFit traitsOf auxiliaryTraits
 auxiliary-pages =
-    (λ w. (omega arith, operand w))
-    and (λ w. (omega arith, operand w))
+    operand
     and operand
     and operand
-    and (λ w. (omega arith, omega arith))
-    and (λ w. omega arith)
-    and (λ w. omega arith)
-    and (λ w. omega arith)
+    and operand
+    and (λ w. (tt, omega arith))
+    and no-field
+    and no-field
+    and (λ w. (tt, omega arith))
     and tt
 
 branch-pages : RowsFit branchPages
-unfolding RowsFit
+unfolding RowsFit traitsOf branchesTraits
 branch-pages =
     indirect
     and indirect
@@ -143,18 +144,18 @@ branch-pages =
     and tt
 
 transfer-pages : RowsFit transferPages
-unfolding RowsFit
+unfolding RowsFit traitsOf transfersTraits
 transfer-pages =
     operand
-    and (λ w. (omega arith, operand w))
-    and (λ w. (omega arith, operand w))
+    and operand
+    and operand
     and tt
 
 mode-pages : RowsFit modePages
-unfolding RowsFit
+unfolding RowsFit traitsOf modesTraits
 mode-pages =
     operand
-    and (λ w. omega arith)
+    and (λ w. (tt, omega arith))
     and no-field
     and no-field
     and no-field

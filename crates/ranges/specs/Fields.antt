@@ -1,5 +1,5 @@
 -- The widths of an instruction's fields, by the bits that its page prints for them.
-use Prim.Native.Nat.{_<_}
+use Prim.Native.Nat.{_^_, _<_}
 use Rattle.operands.specs.declared.NextArp.{NextArp}
 use Rattle.operands.specs.declared.NextArp.the-variants.{Same, To}
 use Rattle.operands.specs.declared.Indirect.{Indirect}
@@ -20,6 +20,9 @@ use Rattle.instructions.specs.declared.Transfers.the-variants as Transfers
 use Rattle.instructions.specs.declared.Modes.{Modes}
 use Rattle.instructions.specs.declared.Modes.the-variants as Modes
 use Rattle.instructions.specs.declared.Decoded.{Decoded}
+use Rattle.pages.specs.declared.Operand.{Operand}
+use Rattle.pages.specs.declared.Operand.the-variants as Operand
+use Rattle.pages.specs.Traits.{traitsOf}
 use Rattle.instructions.specs.declared.Decoded.the-variants.{Built, Unbuilt, Nothing}
 
 -- the next ARP is a register's number
@@ -30,30 +33,35 @@ NextFits (To arp) = arp < 8
 abbrev pub IndirectFits : Indirect → Type 0
 IndirectFits operand = NextFits (operand .next)
 
--- an offset lies in its page
+-- an offset lies in its data page
 abbrev pub AddressFits : Address → Type 0
 AddressFits (Mode.Direct offset) = offset < 128
 AddressFits (Mode.Indirect operand) = IndirectFits operand
 
+abbrev pub OperandFits : Operand → Type 0
+OperandFits Operand.Nothing = Unit {0}
+OperandFits (Operand.At a) = AddressFits a
+
+-- A constant that a rule puts into a cell as it is has no more than the bits that its page prints. Of the other fields nothing is asked: the rules cut them, or only count by them.
 abbrev pub accumulatorFits : Accumulator → Type 0
-accumulatorFits (Accumulator.Add n a) = (n < 16) × AddressFits a
-accumulatorFits (Accumulator.Sub n a) = (n < 16) × AddressFits a
-accumulatorFits (Accumulator.Lac n a) = (n < 16) × AddressFits a
-accumulatorFits (Accumulator.Addh a) = AddressFits a
-accumulatorFits (Accumulator.Adds a) = AddressFits a
-accumulatorFits (Accumulator.Subh a) = AddressFits a
-accumulatorFits (Accumulator.Subs a) = AddressFits a
-accumulatorFits (Accumulator.Subc a) = AddressFits a
-accumulatorFits (Accumulator.Zalh a) = AddressFits a
-accumulatorFits (Accumulator.Zals a) = AddressFits a
-accumulatorFits (Accumulator.And a) = AddressFits a
-accumulatorFits (Accumulator.Or a) = AddressFits a
-accumulatorFits (Accumulator.Xor a) = AddressFits a
-accumulatorFits (Accumulator.Sacl n a) = (n < 8) × AddressFits a
-accumulatorFits (Accumulator.Sach n a) = (n < 8) × AddressFits a
-accumulatorFits (Accumulator.Lack k) = k < 256
-accumulatorFits (Accumulator.Addk k) = k < 256
-accumulatorFits (Accumulator.Subk k) = k < 256
+accumulatorFits (Accumulator.Add n a) = Unit {0}
+accumulatorFits (Accumulator.Sub n a) = Unit {0}
+accumulatorFits (Accumulator.Lac n a) = Unit {0}
+accumulatorFits (Accumulator.Addh a) = Unit {0}
+accumulatorFits (Accumulator.Adds a) = Unit {0}
+accumulatorFits (Accumulator.Subh a) = Unit {0}
+accumulatorFits (Accumulator.Subs a) = Unit {0}
+accumulatorFits (Accumulator.Subc a) = Unit {0}
+accumulatorFits (Accumulator.Zalh a) = Unit {0}
+accumulatorFits (Accumulator.Zals a) = Unit {0}
+accumulatorFits (Accumulator.And a) = Unit {0}
+accumulatorFits (Accumulator.Or a) = Unit {0}
+accumulatorFits (Accumulator.Xor a) = Unit {0}
+accumulatorFits (Accumulator.Sacl n a) = Unit {0}
+accumulatorFits (Accumulator.Sach n a) = Unit {0}
+accumulatorFits (Accumulator.Lack k) = k < 2 ^ 8
+accumulatorFits (Accumulator.Addk k) = k < 2 ^ 8
+accumulatorFits (Accumulator.Subk k) = Unit {0}
 accumulatorFits Accumulator.Cmpl = Unit {0}
 accumulatorFits Accumulator.Neg = Unit {0}
 accumulatorFits Accumulator.Abs = Unit {0}
@@ -61,54 +69,35 @@ accumulatorFits Accumulator.Sfl = Unit {0}
 accumulatorFits Accumulator.Sfr = Unit {0}
 
 abbrev pub multiplierFits : Multiplier → Type 0
-multiplierFits (Multiplier.Lt a) = AddressFits a
-multiplierFits (Multiplier.Lta a) = AddressFits a
-multiplierFits (Multiplier.Ltp a) = AddressFits a
-multiplierFits (Multiplier.Ltd a) = AddressFits a
-multiplierFits (Multiplier.Lts a) = AddressFits a
-multiplierFits (Multiplier.Mpy a) = AddressFits a
-multiplierFits (Multiplier.Mpya a) = AddressFits a
-multiplierFits (Multiplier.Mpys a) = AddressFits a
-multiplierFits (Multiplier.Mpyk k) = k < 8192
-multiplierFits (Multiplier.Sqra a) = AddressFits a
-multiplierFits (Multiplier.Sqrs a) = AddressFits a
-multiplierFits (Multiplier.Mac a) = AddressFits a
-multiplierFits (Multiplier.Macd a) = AddressFits a
+multiplierFits (Multiplier.Lt a) = Unit {0}
+multiplierFits (Multiplier.Lta a) = Unit {0}
+multiplierFits (Multiplier.Ltp a) = Unit {0}
+multiplierFits (Multiplier.Ltd a) = Unit {0}
+multiplierFits (Multiplier.Lts a) = Unit {0}
+multiplierFits (Multiplier.Mpy a) = Unit {0}
+multiplierFits (Multiplier.Mpya a) = Unit {0}
+multiplierFits (Multiplier.Mpys a) = Unit {0}
+multiplierFits (Multiplier.Mpyk k) = Unit {0}
+multiplierFits (Multiplier.Sqra a) = Unit {0}
+multiplierFits (Multiplier.Sqrs a) = Unit {0}
+multiplierFits (Multiplier.Mac a) = Unit {0}
+multiplierFits (Multiplier.Macd a) = Unit {0}
 multiplierFits Multiplier.Pac = Unit {0}
 multiplierFits Multiplier.Apac = Unit {0}
 multiplierFits Multiplier.Spac = Unit {0}
-multiplierFits (Multiplier.Spl a) = AddressFits a
-multiplierFits (Multiplier.Sph a) = AddressFits a
-multiplierFits (Multiplier.Spm k) = k < 4
+multiplierFits (Multiplier.Spl a) = Unit {0}
+multiplierFits (Multiplier.Sph a) = Unit {0}
+multiplierFits (Multiplier.Spm k) = k < 2 ^ 2
 
 abbrev pub auxiliaryFits : Auxiliary → Type 0
-auxiliaryFits (Auxiliary.Lar n a) = (n < 8) × AddressFits a
-auxiliaryFits (Auxiliary.Sar n a) = (n < 8) × AddressFits a
-auxiliaryFits (Auxiliary.Lark r k) = (r < 8) × (k < 256)
-auxiliaryFits (Auxiliary.Mar a) = AddressFits a
-auxiliaryFits (Auxiliary.Adrk k) = k < 256
-auxiliaryFits (Auxiliary.Sbrk k) = k < 256
-auxiliaryFits (Auxiliary.Ldp a) = AddressFits a
-auxiliaryFits (Auxiliary.Ldpk k) = k < 512
-
-abbrev pub branchesFits : Branches → Type 0
-branchesFits (Branches.B i) = IndirectFits i
-branchesFits (Branches.Banz i) = IndirectFits i
-branchesFits (Branches.Bz i) = IndirectFits i
-branchesFits (Branches.Bnz i) = IndirectFits i
-branchesFits (Branches.Bgz i) = IndirectFits i
-branchesFits (Branches.Bgez i) = IndirectFits i
-branchesFits (Branches.Blz i) = IndirectFits i
-branchesFits (Branches.Blez i) = IndirectFits i
-branchesFits (Branches.Bv i) = IndirectFits i
-branchesFits (Branches.Bnv i) = IndirectFits i
-branchesFits (Branches.Call i) = IndirectFits i
-branchesFits Branches.Ret = Unit {0}
-
-abbrev pub transfersFits : Transfers → Type 0
-transfersFits (Transfers.Dmov a) = AddressFits a
-transfersFits (Transfers.In port a) = (port < 16) × AddressFits a
-transfersFits (Transfers.Out port a) = (port < 16) × AddressFits a
+auxiliaryFits (Auxiliary.Lar n a) = Unit {0}
+auxiliaryFits (Auxiliary.Sar n a) = Unit {0}
+auxiliaryFits (Auxiliary.Lark r k) = k < 2 ^ 8
+auxiliaryFits (Auxiliary.Mar a) = Unit {0}
+auxiliaryFits (Auxiliary.Adrk k) = Unit {0}
+auxiliaryFits (Auxiliary.Sbrk k) = Unit {0}
+auxiliaryFits (Auxiliary.Ldp a) = Unit {0}
+auxiliaryFits (Auxiliary.Ldpk k) = k < 2 ^ 9
 
 abbrev pub modesFits : Modes → Type 0
 modesFits Modes.Sovm = Unit {0}
@@ -117,18 +106,21 @@ modesFits Modes.Ssxm = Unit {0}
 modesFits Modes.Rsxm = Unit {0}
 modesFits Modes.Cnfd = Unit {0}
 modesFits Modes.Cnfp = Unit {0}
-modesFits (Modes.Rpt a) = AddressFits a
-modesFits (Modes.Rptk k) = k < 256
+modesFits (Modes.Rpt a) = Unit {0}
+modesFits (Modes.Rptk k) = k < 2 ^ 8
 modesFits Modes.Push = Unit {0}
 modesFits Modes.Pop = Unit {0}
 
+abbrev pub ConstantFits : Instruction → Type 0
+ConstantFits (Family.Accumulator i) = accumulatorFits i
+ConstantFits (Family.Multiplier i) = multiplierFits i
+ConstantFits (Family.Auxiliary i) = auxiliaryFits i
+ConstantFits (Family.Branches i) = Unit {0}
+ConstantFits (Family.Transfers i) = Unit {0}
+ConstantFits (Family.Modes i) = modesFits i
+
 abbrev pub FieldsFit : Instruction → Type 0
-FieldsFit (Family.Accumulator i) = accumulatorFits i
-FieldsFit (Family.Multiplier i) = multiplierFits i
-FieldsFit (Family.Auxiliary i) = auxiliaryFits i
-FieldsFit (Family.Branches i) = branchesFits i
-FieldsFit (Family.Transfers i) = transfersFits i
-FieldsFit (Family.Modes i) = modesFits i
+FieldsFit x = OperandFits (traitsOf x .operand) × ConstantFits x
 
 -- of what a word is
 abbrev pub DecodedFits : Decoded → Type 0

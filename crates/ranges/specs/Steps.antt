@@ -45,7 +45,7 @@ use Rattle.ranges.specs.FieldLaws.{fields-at}
 use Rattle.ranges.specs.Cells.{Fits, words-set, set-cell, cell-fits}
 use Rattle.ranges.specs.Widths.{sum-lt}
 use Rattle.ranges.specs.Rules.{StoreFits, JumpFits, EffectFits, rule-keeps}
-use Rattle.ranges.specs.Operands.{operand-fits, addressed-keeps, addressed-cursors, second-lt, words-read}
+use Rattle.ranges.specs.Operands.{addressed-keeps, addressed-cursors, second-lt, words-read}
 
 -- ---- the world's cells, and back
 
@@ -133,8 +133,8 @@ module _ (g : Given) (d : List ℕ) (o : ℕ) (x : Instruction) (m : Machine) (f
   effect-fits : EffectFits (length (g .input)) o (effectOf (traitsOf x) x (secondWord x g d m) g d m)
   unfolding effectOf
   effect-fits =
-      rule-keeps x (wordsRead (traitsOf x) (secondWord x g d m) g d m) f (addressed-keeps (traitsOf x .operand) (operand-fits x fields) f)
-      (words-read (traitsOf x) (secondWord x g d m) g d m (second-lt x g d m hr hd) hr hd hi) fields
+      rule-keeps x (wordsRead (traitsOf x) (secondWord x g d m) g d m) f (addressed-keeps (traitsOf x .operand) (fields .0) f)
+      (words-read (traitsOf x) (secondWord x g d m) g d m (second-lt x g d m hr hd) hr hd hi) (fields .1)
       (λ e. rw (addressed-cursors (traitsOf x .operand) m .1) (room e))
 
   passed-fits : Fits (length (g .input)) o (passedMachine (traitsOf x) x (secondWord x g d m) g d m)
