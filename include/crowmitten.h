@@ -38,6 +38,9 @@ enum crowmitten_answer {
     CROWMITTEN_FILE_NO_ROOM = 23      /* the file does not fit the lent bytes */
 };
 
+/* The earlier name of CROWMITTEN_NOT_BUILT. */
+#define CROWMITTEN_NOT_IN_BASE CROWMITTEN_NOT_BUILT
+
 /* The cells: one number each, in this order. */
 enum crowmitten_cell {
     CROWMITTEN_ACC = 0,    /* 32 bits */

@@ -50,7 +50,7 @@ pub fn is_done(a: Answer) -> bool
     number(a) == 0
 }
 
-// The same, as the library for C gives it.
+// The number of an answer in 32 bits, as the library for C gives it.
 pub fn number_of(answer: Answer) -> u32
     ensures { λ r. ⌜ r ≡ numberOf answer ⌝ }
 {

@@ -55,7 +55,7 @@ use Rattle.pages.specs.declared.Words.{Words}
 use Rattle.pages.specs.Rules.{ruleOf}
 use Rattle.board.specs.Slices.{slicesFit}
 use Rattle.board.specs.Given.{Given}
-use Rattle.steps.specs.Refusals.{dataAbsent, tableAbsent, outputFull, passRows, operandRows, restRows}
+use Rattle.steps.specs.Refusals.{dataAbsent, tableAbsent, outputFull, passRows, accessRows, restRows}
 use Rattle.steps.specs.Stores.{dataAfter, outputAfter}
 use Rattle.steps.specs.Pass.{wordsRead, effectOf, passedMachine, passedWrite, performed}
 use Rattle.steps.specs.World.{World}
@@ -264,7 +264,7 @@ module _ (g : Given) (w : World) (i : Instruction) (d : decodedAt g (w .«data»
   pass-recounted : (second : ℕ)
       → passRows (traitsOf i) (addressOf (traitsOf i .operand) (withRptc (w .m) n)) second (length (w .output)) (withRptc (w .m) n)
       ≡ passRows (traitsOf i) (addressOf (traitsOf i .operand) (w .m)) second (length (w .output)) (w .m)
-  unfolding passRows operandRows restRows dataAbsent tableAbsent tableAddress outputFull
+  unfolding passRows accessRows restRows dataAbsent tableAbsent tableAddress outputFull
   pass-recounted second = rw (address-counted (traitsOf i .operand) (w .m) n (w .m .pc))
 
   none-recounted : NoneHolds (tableFor (Built i) g (w .«data») (length (w .output)) (w .m)) → NoneHolds (tableFor (Built i) g (w .«data») (length (w .output)) (withRptc (w .m) n))

@@ -19,7 +19,7 @@ use Rattle.steps.specs.World.{World}
 use Rattle.steps.specs.Table.{decodedAt, secondWord, tableFor, checksOf, checkRows, fetchRows, encodingRows, instructionRows, repeatRows}
 use Rattle.steps.specs.Step.{pagePlan, planOf, afterStore, stepOf, rowsOf}
 use Rattle.steps.specs.RowLaws.{every, every-first, none-done, none-from, none-append, plan-by-first}
-use Rattle.steps.specs.Refusals.{passRows, operandRows, restRows}
+use Rattle.steps.specs.Refusals.{passRows, accessRows, restRows}
 use Rattle.steps.specs.TableLaws.{step-answer, rows-refuse}
 use Rattle.laws.specs.Laws.{RefusedUnchanged, AnswersOfAStep, GivenBy, RowGiven, RepeatBeforeSecondWord, PortBeforeData, PresenceBeforeEncoding, isAmong, stepNumbers}
 use Rattle.board.specs.Given.{Given}
@@ -52,7 +52,7 @@ first-numbered (r ∷ rows) h =
     by false e next = next
 
 table-numbered : (d : Decoded) (g : Given) («data» : List ℕ) (outputLength : ℕ) (m : Machine) → every numbered (tableFor d g «data» outputLength m) ≡ true
-unfolding numbered isAmong stepNumbers tableFor checkRows fetchRows encodingRows instructionRows repeatRows passRows operandRows restRows
+unfolding numbered isAmong stepNumbers tableFor checkRows fetchRows encodingRows instructionRows repeatRows passRows accessRows restRows
 table-numbered (Built i) g «data» outputLength m = refl
 table-numbered Unbuilt g «data» outputLength m = refl
 table-numbered Nothing g «data» outputLength m = refl
@@ -104,15 +104,15 @@ row-given g w = record {
 -- ---- the order, where two conditions hold at once
 
 pub presence-before-encoding : PresenceBeforeEncoding
-unfolding firstGiven tableFor checkRows fetchRows encodingRows instructionRows repeatRows passRows operandRows
+unfolding firstGiven tableFor checkRows fetchRows encodingRows instructionRows repeatRows passRows accessRows
 presence-before-encoding g «data» outputLength m r s p = rw (r, s, p)
 
 pub repeat-before-second-word : RepeatBeforeSecondWord
-unfolding firstGiven tableFor checkRows fetchRows encodingRows instructionRows repeatRows passRows operandRows
+unfolding firstGiven tableFor checkRows fetchRows encodingRows instructionRows repeatRows passRows accessRows
 repeat-before-second-word g w i s repeated absent =
     rw (step-answer g w, s .word-is, s .cells-in-range, s .slices-of-size, s .word-present, repeated)
 
 pub port-before-data : PortBeforeData
-unfolding firstGiven tableFor checkRows fetchRows encodingRows instructionRows repeatRows passRows operandRows
+unfolding firstGiven tableFor checkRows fetchRows encodingRows instructionRows repeatRows passRows accessRows
 port-before-data g w i s repeats present wrong absent =
     rw (step-answer g w, s .word-is, s .cells-in-range, s .slices-of-size, s .word-present, repeats, present, wrong)

@@ -21,13 +21,13 @@ rowNamed (c ∷ cs) [] name = []
 rowNamed (c ∷ cs) (row ∷ rows) name = chosen (eqt (c .name) name) row (rowNamed cs rows name)
 
 -- what is given for a name, as a row
-abbrev pub given : (String → ℕ) → (String → List ℕ) → String → Cell → List ℕ
-given number words name c = chosen (eqb (c .count) 1) (number name ∷ []) (words name)
+abbrev pub rowGiven : (String → ℕ) → (String → List ℕ) → String → Cell → List ℕ
+rowGiven number words name c = chosen (eqb (c .count) 1) (number name ∷ []) (words name)
 
 -- the rows of a machine that is built
 abbrev pub rowsBuilt : (String → ℕ) → (String → List ℕ) → List Cell → List (List ℕ)
 rowsBuilt number words [] = []
-rowsBuilt number words (c ∷ cs) = given number words (c .name) c ∷ rowsBuilt number words cs
+rowsBuilt number words (c ∷ cs) = rowGiven number words (c .name) c ∷ rowsBuilt number words cs
 
 module _ (number : String → ℕ) (words : String → List ℕ) where
   -- the machine built from these
@@ -37,16 +37,16 @@ module _ (number : String → ℕ) (words : String → List ℕ) where
   pub rows-built : rowsHeld builtBy ≡ rowsBuilt number words cells
   rows-built = refl
 
-  named : (cs : List Cell) (name : String) → rowNamed cs (rowsBuilt number words cs) name ≡ inColumn (given number words name) [] cs name
+  named : (cs : List Cell) (name : String) → rowNamed cs (rowsBuilt number words cs) name ≡ inColumn (rowGiven number words name) [] cs name
   named [] name = refl
   named (c ∷ cs) name = by (eqt (c .name) name) (eqt→eq (c .name) name) (named cs name)
     where
       by : (t : Bool) → (T t → c .name ≡ name) → {before after : List ℕ} → before ≡ after
-          → chosen t (given number words (c .name) c) before ≡ chosen t (given number words name c) after
-      by true e h = ap (λ (n : String). given number words n c) (e tt)
+          → chosen t (rowGiven number words (c .name) c) before ≡ chosen t (rowGiven number words name c) after
+      by true e h = ap (λ (n : String). rowGiven number words n c) (e tt)
       by false e h = h
 
-  pub built-holds : (name : String) → cellWords builtBy name ≡ inColumn (given number words name) [] cells name
+  pub built-holds : (name : String) → cellWords builtBy name ≡ inColumn (rowGiven number words name) [] cells name
   built-holds name = named cells name
 
 -- ---- the setters

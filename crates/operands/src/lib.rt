@@ -1,5 +1,4 @@
-// The operand in data memory that the pages call dma: its address mode. A crate of its own and a short name, since what is proved of a function spells out
-// the types of its variables at every point.
+// The operand in data memory, which the guide's pages call dma: its address mode. Definitions, the decoder and the pages share it.
 
 // What an indirect operand makes of AR(ARP) after its use (Table 4-1; 011 is reserved and is no case).
 pub enum Modification {

@@ -51,7 +51,7 @@ unfolding RowsFit
 joined [] b f g = g
 joined (r ∷ a) b f g = f .0 and joined a b (f .1) g
 
--- a page with no operand and no constant that is put into a cell; with an operand, or a branch's; with such a constant below a limit
+-- a page with no operand and no number; with an operand, or a branch's, and no number; and with an operand and a number
 no-field : ℕ → Unit {0} × Unit {0}
 no-field w = (tt, tt)
 
@@ -61,10 +61,15 @@ operand w = (address-fits (w % 256), tt)
 indirect : (w : ℕ) → IndirectFits (indirectOf (w % 256)) × Unit {0}
 indirect w = (indirect-fits (w % 256), tt)
 
+with-operand : {N : ℕ → Type 0} → ((w : ℕ) → N w) → (w : ℕ) → AddressFits (addressModeOf (w % 256)) × N w
+with-operand n w = (address-fits (w % 256), n w)
+
 accumulator-pages : RowsFit accumulatorPages
 unfolding RowsFit traitsOf accumulatorTraits
 accumulator-pages =
-    operand
+    with-operand (λ w. omega arith)
+    and with-operand (λ w. omega arith)
+    and with-operand (λ w. omega arith)
     and operand
     and operand
     and operand
@@ -75,13 +80,11 @@ accumulator-pages =
     and operand
     and operand
     and operand
-    and operand
-    and operand
-    and operand
-    and operand
+    and with-operand (λ w. omega arith)
+    and with-operand (λ w. omega arith)
     and (λ w. (tt, omega arith))
     and (λ w. (tt, omega arith))
-    and no-field
+    and (λ w. (tt, omega arith))
     and no-field
     and no-field
     and no-field
@@ -106,7 +109,7 @@ multiplier-pages =
     and operand
     and operand
     and operand
-    and no-field
+    and (λ w. (tt, omega arith))
     and no-field
     and no-field
     and no-field
@@ -116,13 +119,13 @@ multiplier-pages =
 auxiliary-pages : RowsFit auxiliaryPages
 unfolding RowsFit traitsOf auxiliaryTraits
 auxiliary-pages =
-    operand
+    with-operand (λ w. omega arith)
+    and with-operand (λ w. omega arith)
     and operand
     and operand
-    and operand
+    and (λ w. (tt, (omega arith, omega arith)))
     and (λ w. (tt, omega arith))
-    and no-field
-    and no-field
+    and (λ w. (tt, omega arith))
     and (λ w. (tt, omega arith))
     and tt
 
@@ -147,8 +150,8 @@ transfer-pages : RowsFit transferPages
 unfolding RowsFit traitsOf transfersTraits
 transfer-pages =
     operand
-    and operand
-    and operand
+    and with-operand (λ w. omega arith)
+    and with-operand (λ w. omega arith)
     and tt
 
 mode-pages : RowsFit modePages

@@ -17,6 +17,8 @@ use Rattle.instructions.specs.declared.Branches.{Branches}
 use Rattle.instructions.specs.declared.Branches.the-variants as Branches
 use Rattle.instructions.specs.declared.Transfers.{Transfers}
 use Rattle.instructions.specs.declared.Transfers.the-variants as Transfers
+use Rattle.instructions.specs.declared.Transfers.{Transfers}
+use Rattle.instructions.specs.declared.Transfers.the-variants as Transfers
 use Rattle.instructions.specs.declared.Modes.{Modes}
 use Rattle.instructions.specs.declared.Modes.the-variants as Modes
 use Rattle.instructions.specs.declared.Decoded.{Decoded}
@@ -42,11 +44,11 @@ abbrev pub OperandFits : Operand → Type 0
 OperandFits Operand.Nothing = Unit {0}
 OperandFits (Operand.At a) = AddressFits a
 
--- A constant that a rule puts into a cell as it is has no more than the bits that its page prints. Of the other fields nothing is asked: the rules cut them, or only count by them.
+-- the numbers of a page besides its operand, by the bits that it prints for them
 abbrev pub accumulatorFits : Accumulator → Type 0
-accumulatorFits (Accumulator.Add n a) = Unit {0}
-accumulatorFits (Accumulator.Sub n a) = Unit {0}
-accumulatorFits (Accumulator.Lac n a) = Unit {0}
+accumulatorFits (Accumulator.Add n a) = n < 16
+accumulatorFits (Accumulator.Sub n a) = n < 16
+accumulatorFits (Accumulator.Lac n a) = n < 16
 accumulatorFits (Accumulator.Addh a) = Unit {0}
 accumulatorFits (Accumulator.Adds a) = Unit {0}
 accumulatorFits (Accumulator.Subh a) = Unit {0}
@@ -57,11 +59,11 @@ accumulatorFits (Accumulator.Zals a) = Unit {0}
 accumulatorFits (Accumulator.And a) = Unit {0}
 accumulatorFits (Accumulator.Or a) = Unit {0}
 accumulatorFits (Accumulator.Xor a) = Unit {0}
-accumulatorFits (Accumulator.Sacl n a) = Unit {0}
-accumulatorFits (Accumulator.Sach n a) = Unit {0}
-accumulatorFits (Accumulator.Lack k) = k < 2 ^ 8
-accumulatorFits (Accumulator.Addk k) = k < 2 ^ 8
-accumulatorFits (Accumulator.Subk k) = Unit {0}
+accumulatorFits (Accumulator.Sacl n a) = n < 8
+accumulatorFits (Accumulator.Sach n a) = n < 8
+accumulatorFits (Accumulator.Lack k) = k < 256
+accumulatorFits (Accumulator.Addk k) = k < 256
+accumulatorFits (Accumulator.Subk k) = k < 256
 accumulatorFits Accumulator.Cmpl = Unit {0}
 accumulatorFits Accumulator.Neg = Unit {0}
 accumulatorFits Accumulator.Abs = Unit {0}
@@ -77,7 +79,7 @@ multiplierFits (Multiplier.Lts a) = Unit {0}
 multiplierFits (Multiplier.Mpy a) = Unit {0}
 multiplierFits (Multiplier.Mpya a) = Unit {0}
 multiplierFits (Multiplier.Mpys a) = Unit {0}
-multiplierFits (Multiplier.Mpyk k) = Unit {0}
+multiplierFits (Multiplier.Mpyk k) = k < 8192
 multiplierFits (Multiplier.Sqra a) = Unit {0}
 multiplierFits (Multiplier.Sqrs a) = Unit {0}
 multiplierFits (Multiplier.Mac a) = Unit {0}
@@ -87,17 +89,22 @@ multiplierFits Multiplier.Apac = Unit {0}
 multiplierFits Multiplier.Spac = Unit {0}
 multiplierFits (Multiplier.Spl a) = Unit {0}
 multiplierFits (Multiplier.Sph a) = Unit {0}
-multiplierFits (Multiplier.Spm k) = k < 2 ^ 2
+multiplierFits (Multiplier.Spm k) = k < 4
 
 abbrev pub auxiliaryFits : Auxiliary → Type 0
-auxiliaryFits (Auxiliary.Lar n a) = Unit {0}
-auxiliaryFits (Auxiliary.Sar n a) = Unit {0}
-auxiliaryFits (Auxiliary.Lark r k) = k < 2 ^ 8
+auxiliaryFits (Auxiliary.Lar n a) = n < 8
+auxiliaryFits (Auxiliary.Sar n a) = n < 8
+auxiliaryFits (Auxiliary.Lark r k) = (r < 8) × (k < 256)
 auxiliaryFits (Auxiliary.Mar a) = Unit {0}
-auxiliaryFits (Auxiliary.Adrk k) = Unit {0}
-auxiliaryFits (Auxiliary.Sbrk k) = Unit {0}
+auxiliaryFits (Auxiliary.Adrk k) = k < 256
+auxiliaryFits (Auxiliary.Sbrk k) = k < 256
 auxiliaryFits (Auxiliary.Ldp a) = Unit {0}
-auxiliaryFits (Auxiliary.Ldpk k) = k < 2 ^ 9
+auxiliaryFits (Auxiliary.Ldpk k) = k < 512
+
+abbrev pub transfersFits : Transfers → Type 0
+transfersFits (Transfers.Dmov a) = Unit {0}
+transfersFits (Transfers.In port a) = port < 16
+transfersFits (Transfers.Out port a) = port < 16
 
 abbrev pub modesFits : Modes → Type 0
 modesFits Modes.Sovm = Unit {0}
@@ -107,20 +114,20 @@ modesFits Modes.Rsxm = Unit {0}
 modesFits Modes.Cnfd = Unit {0}
 modesFits Modes.Cnfp = Unit {0}
 modesFits (Modes.Rpt a) = Unit {0}
-modesFits (Modes.Rptk k) = k < 2 ^ 8
+modesFits (Modes.Rptk k) = k < 256
 modesFits Modes.Push = Unit {0}
 modesFits Modes.Pop = Unit {0}
 
-abbrev pub ConstantFits : Instruction → Type 0
-ConstantFits (Family.Accumulator i) = accumulatorFits i
-ConstantFits (Family.Multiplier i) = multiplierFits i
-ConstantFits (Family.Auxiliary i) = auxiliaryFits i
-ConstantFits (Family.Branches i) = Unit {0}
-ConstantFits (Family.Transfers i) = Unit {0}
-ConstantFits (Family.Modes i) = modesFits i
+abbrev pub NumbersFit : Instruction → Type 0
+NumbersFit (Family.Accumulator i) = accumulatorFits i
+NumbersFit (Family.Multiplier i) = multiplierFits i
+NumbersFit (Family.Auxiliary i) = auxiliaryFits i
+NumbersFit (Family.Branches i) = Unit {0}
+NumbersFit (Family.Transfers i) = transfersFits i
+NumbersFit (Family.Modes i) = modesFits i
 
 abbrev pub FieldsFit : Instruction → Type 0
-FieldsFit x = OperandFits (traitsOf x .operand) × ConstantFits x
+FieldsFit x = OperandFits (traitsOf x .operand) × NumbersFit x
 
 -- of what a word is
 abbrev pub DecodedFits : Decoded → Type 0

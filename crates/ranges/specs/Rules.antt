@@ -42,7 +42,7 @@ use Rattle.pages.specs.Traits.{traitsOf, transfersTraits}
 use Rattle.steps.specs.Refusals.{sends}
 use Rattle.pages.specs.declared.Words.{Words}
 use Rattle.pages.specs.Rules.{ruleOf}
-use Rattle.ranges.specs.Fields.{ConstantFits, accumulatorFits, multiplierFits, auxiliaryFits, modesFits}
+use Rattle.ranges.specs.Fields.{NumbersFit, accumulatorFits, multiplierFits, auxiliaryFits, modesFits}
 use Rattle.ranges.specs.Cells.{Fits, set-cell, set-register, set-pushed, set-popped, top-fits, cell-fits, register-fits}
 use Rattle.ranges.specs.Widths.{SumFits, ShiftedFits, added-fits, subtracted-fits, added-high-fits, subtracted-high-fits, negated-fits, absolute-fits, conditionally-fits, high-half-lt, operand-lt, unsigned-lt, stored-low-lt, stored-high-lt, left-fits, right-fits, anded-lt, ored-lt, xored-lt, complemented-lt, product-lt, shifted-lt, product-high-lt, product-low-lt, sum-lt, sum-le, difference-lt}
 
@@ -166,7 +166,7 @@ module _ {i o : ℕ} where
   unfolding auxiliaryRule LAR SAR LARK MAR ADRK SBRK LDP LDPK
   auxiliary-keeps (Auxiliary.Lar r a) {before} {m} {w} b f h g = only (set-register f r w h)
   auxiliary-keeps (Auxiliary.Sar r a) {before} {m} {w} b f h g = storing f (register-fits b r)
-  auxiliary-keeps (Auxiliary.Lark r k) {before} {m} {w} b f h g = only (set-register f r k (omega (arith, g)))
+  auxiliary-keeps (Auxiliary.Lark r k) {before} {m} {w} b f h g = only (set-register f r k (omega (arith, g .1)))
   auxiliary-keeps (Auxiliary.Mar a) {before} {m} {w} b f h g = only f
   auxiliary-keeps (Auxiliary.Adrk k) {before} {m} {w} b f h g = only (set-register f (m .arp) _ (sum-lt _ k))
   auxiliary-keeps (Auxiliary.Sbrk k) {before} {m} {w} b f h g = only (set-register f (m .arp) _ (difference-lt _ k))
@@ -217,7 +217,7 @@ module _ {i o : ℕ} where
   modes-keeps Modes.Push {m} w f g = only (set-pushed f _ (sixteen (m .acc)))
   modes-keeps Modes.Pop {m} w f g = only (set-cell "ACC" (set-popped f) (omega (arith, top-fits f)))
 
-  pub rule-keeps : (x : Instruction) {before m : Machine} (words : Words) → Fits i o before → Fits i o m → WordsRead i m words → ConstantFits x
+  pub rule-keeps : (x : Instruction) {before m : Machine} (words : Words) → Fits i o before → Fits i o m → WordsRead i m words → NumbersFit x
       → (sends (traitsOf x .port) ≡ true → m .«output_cursor» < o) → EffectFits i o (ruleOf x before m words)
   unfolding ruleOf traitsOf
   rule-keeps (Family.Accumulator x) words b f r g room = accumulator-keeps x f (r .operand) g

@@ -24,7 +24,7 @@ use Rattle.steps.specs.World.{World, RunOutcome}
 use Rattle.steps.specs.Table.{decodedAt, tableFor, checksOf, checkRows, fetchRows, encodingRows, instructionRows, repeatRows}
 use Rattle.steps.specs.Step.{stepOf, runOf}
 use Rattle.steps.specs.RowLaws.{every, every-first}
-use Rattle.steps.specs.Refusals.{passRows, operandRows, restRows}
+use Rattle.steps.specs.Refusals.{passRows, accessRows, restRows}
 use Rattle.steps.specs.TableLaws.{step-answer}
 use Rattle.laws.specs.Laws.{AllDone}
 use Rattle.laws.specs.Runs.{run-none, run-refused, run-done, by-first}
@@ -59,7 +59,7 @@ rows-other (r ∷ rows) h =
 
 -- the rows behind checks 1 and 2
 later-other : (c : Decoded) (g : Given) («data» : List ℕ) (o : ℕ) (m : Machine) → Other (firstGiven (fetchRows m ++ (encodingRows c ++ instructionRows c g «data» o m)))
-unfolding above2 fetchRows encodingRows instructionRows repeatRows passRows operandRows restRows
+unfolding above2 fetchRows encodingRows instructionRows repeatRows passRows accessRows restRows
 later-other (Built i) g «data» o m = rows-other (fetchRows m ++ (encodingRows (Built i) ++ instructionRows (Built i) g «data» o m)) refl
 later-other Unbuilt g «data» o m = rows-other (fetchRows m ++ (encodingRows Unbuilt ++ [])) refl
 later-other Nothing g «data» o m = rows-other (fetchRows m ++ (encodingRows Nothing ++ [])) refl

@@ -29,7 +29,7 @@ use Rattle.board.specs.Given.{Given}
 use Rattle.steps.specs.declared.Write.{Write}
 use Rattle.steps.specs.declared.Write.the-variants as Write
 use Rattle.steps.specs.Rows.{Row, NoneHolds}
-use Rattle.steps.specs.Refusals.{sends, outputFull, passRows, operandRows, restRows}
+use Rattle.steps.specs.Refusals.{sends, outputFull, passRows, accessRows, restRows}
 use Rattle.steps.specs.Stores.{writeOf, dataAfter, outputAfter}
 use Rattle.steps.specs.Pass.{wordsRead, effectOf, passedMachine, passedWrite, performed}
 use Rattle.steps.specs.World.{World}
@@ -182,7 +182,7 @@ module _ (g : Given) (w : World) (k : WorldInRange g w) (e : stepOf g w .answer 
 
   decoded-in-range : (c : Decoded) → decodedAt g (w .«data») (w .m) ≡ c → DecodedFits c
       → NoneHolds (table c) → WorldInRange g (stepOf g w .world)
-  unfolding table tableFor checkRows fetchRows encodingRows instructionRows repeatRows passRows operandRows restRows
+  unfolding table tableFor checkRows fetchRows encodingRows instructionRows repeatRows passRows accessRows restRows
   decoded-in-range (Built x) c fields n = built-in-range x c fields (row-not (table (Built x)) "10" n)
   decoded-in-range Unbuilt c fields n = absurd (false≢true (sym (row-not (table Unbuilt) "4" n)))
   decoded-in-range Nothing c fields n = absurd (false≢true (sym (row-not (table Nothing) "3" n)))

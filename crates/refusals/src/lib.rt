@@ -14,7 +14,7 @@ ghost use Rattle.board.specs.Regions.{dataPresent, programPresent};
 ghost use Rattle.board.specs.Slices.{portSpent};
 ghost use Rattle.steps.specs.Pass.{refused};
 ghost use Rattle.steps.specs.Rows.{firstGiven};
-ghost use Rattle.steps.specs.Refusals.{accesses, wrongPort, sends, operandRows, restRows, passRefusal};
+ghost use Rattle.steps.specs.Refusals.{accesses, wrongPort, sends, accessRows, restRows, passRefusal};
 
 // A refused step leaves the machine as it is and stores nothing.
 pub fn refuse(m: Machine, answer: Answer) -> Plan
@@ -88,9 +88,9 @@ fn is_output_full(sent: bool, output_length: usize, cursor: u16) -> bool
     false
 }
 
-// What the operand at this address asks: 9, 8 and 6.
-fn operand_refusal(t: Traits, address: u32, m: Machine) -> Answer
-    ensures { λ r. ⌜ r ≡ firstGiven (operandRows t address m) ⌝ }
+// What is asked of the port and of the operand at this address: 9, 8 and 6.
+fn access_refusal(t: Traits, address: u32, m: Machine) -> Answer
+    ensures { λ r. ⌜ r ≡ firstGiven (accessRows t address m) ⌝ }
 {
     let port = t.port;
     let access = t.access;
@@ -133,7 +133,7 @@ pub fn pass_refusal(
 ) -> Answer
     ensures { λ r. ⌜ r ≡ passRefusal t address second «output_length» m ⌝ }
 {
-    let asked = operand_refusal(t, address, m);
+    let asked = access_refusal(t, address, m);
     if is_done(asked) {
         return rest_refusal(t, second, output_length, m);
     }

@@ -1,10 +1,11 @@
 -- Laws of writing: the file put down part by part, and what each answer leaves.
 use mathlib.Core.Path.{_≡_, refl, ap, _∙_}
 use mathlib.Core.Bool.{Bool, true, false, false≢true}
-use mathlib.Core.List.{List}
+use mathlib.Core.List.{List, [], _∷_}
 use Prim.Native.Nat.{ℕ, _+_, _*_, _≤_, _<_}
+use native.Mathlib.Numerals.{add-one}
 use lib.Dec.{leb}
-use lib.ListN.{length}
+use lib.ListN.{length, set}
 use lib.Seq.{sets}
 use borrow.Author.Tests.{leb-true, le-leb, lt-leb}
 use Rattle.answers.specs.declared.Answer.the-variants.{Done, FileRules, FileNoRoom}
@@ -13,6 +14,10 @@ use Rattle.runfile.specs.Files.{Contents, bytesOf, headWords, fileOf, contentsF
 use Rattle.runfile.specs.WordLaws.{bytes-length, bytes-append}
 use Rattle.basic_laws.specs.Stores.{sets-append, sets-front}
 use Rattle.runfile_writing.specs.Writing.{writeAnswer, written}
+
+-- the two bytes of a word, one after the other
+pub word-put : (l : List ℕ) (at low high : ℕ) → set (set l at low) (at + 1) high ≡ sets l at (low ∷ high ∷ [])
+word-put l at low high = rw add-one
 
 head-length : (c : Contents) → 0 + length (bytesOf (headWords c)) ≡ 16
 unfolding headWords bytesOf

@@ -49,9 +49,9 @@ tableAbsent t second m = t .table && not (programPresent (m .cnf) (tableAddress 
 unfoldable pub outputFull : Traits → ℕ → Machine → Bool
 outputFull t outputLength m = sends (t .port) && portSpent outputLength (m .«output_cursor»)
 
--- what the operand asks, for an operand at this address: "9, 8, 6"
-unfoldable pub operandRows : Traits → ℕ → Machine → List Row
-operandRows t address m =
+-- what is asked of the port and of the operand, for an operand at this address: "9, 8, 6"
+unfoldable pub accessRows : Traits → ℕ → Machine → List Row
+accessRows t address m =
     row "9" WrongPort (wrongPort (t .port))
     ∷ row "8" AddressAbove (addressAbove t address)
     ∷ row "6" DataAbsent (dataAbsent t address m)
@@ -60,13 +60,13 @@ operandRows t address m =
 -- what the rest asks: "5 for a MAC or MACD table word, 10"
 unfoldable pub restRows : Traits → ℕ → ℕ → Machine → List Row
 restRows t second outputLength m =
-    row "5 for a table word" ProgramAbsent (tableAbsent t second m)
+    row "5 for a MAC or MACD table word" ProgramAbsent (tableAbsent t second m)
     ∷ row "10" OutputFull (outputFull t outputLength m)
     ∷ []
 
 -- the rows of a pass, the last of the order
 unfoldable pub passRows : Traits → ℕ → ℕ → ℕ → Machine → List Row
-passRows t address second outputLength m = operandRows t address m ++ restRows t second outputLength m
+passRows t address second outputLength m = accessRows t address m ++ restRows t second outputLength m
 
 unfoldable pub passRefusal : Traits → ℕ → ℕ → ℕ → Machine → Answer
 passRefusal t address second outputLength m = firstGiven (passRows t address second outputLength m)

@@ -1,4 +1,4 @@
--- A step, and a run. A step is an answer and a total `next`: refused, it gives back the world that it got; otherwise the world is what the page's rule makes of it.
+-- A step, and a run. A step is an answer and a world: refused, it gives back the world that it got; otherwise the world is what the page's rule makes of it.
 use mathlib.Core.Bool.{cond}
 use mathlib.Core.List.{List}
 use Prim.Native.Nat.{ℕ, zero, suc}

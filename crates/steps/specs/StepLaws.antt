@@ -14,7 +14,7 @@ use Rattle.board.specs.SliceLaws.{slices-fit}
 use Rattle.board.specs.Given.{Given}
 use Rattle.steps.specs.declared.Plan.{Plan}
 use Rattle.steps.specs.Rows.{NoneHolds}
-use Rattle.steps.specs.Refusals.{passRows, operandRows, restRows}
+use Rattle.steps.specs.Refusals.{passRows, accessRows, restRows}
 use Rattle.steps.specs.Pass.{performed}
 use Rattle.steps.specs.StoreLaws.{WriteFits, write-fits}
 use Rattle.steps.specs.World.{World, Outcome, RunOutcome}
@@ -28,7 +28,7 @@ module _ (g : Given) (d : List ℕ) (outputLength : ℕ) (m : Machine) where
   Fits p = WriteFits (p .write) (length d)
 
   decoded-fits : (x : Decoded) → NoneHolds (tableFor x g d outputLength m) → Fits (pagePlan x g d m)
-  unfolding tableFor checkRows fetchRows encodingRows instructionRows repeatRows passRows operandRows restRows pagePlan performed
+  unfolding tableFor checkRows fetchRows encodingRows instructionRows repeatRows passRows accessRows restRows pagePlan performed
   decoded-fits (Built i) n =
       write-fits i (secondWord i g d m) g d m
       (slices-fit m (g .rom) d (g .input) outputLength (not-false _ (row-not (tableFor (Built i) g d outputLength m) "2" n)) .memories .data-size)

@@ -13,7 +13,7 @@ use Rattle.instructions.specs.declared.Decoded.the-variants.{Built, Unbuilt, No
 use Rattle.pages.specs.Traits.{traitsOf}
 use Rattle.board.specs.Given.{Given}
 use Rattle.steps.specs.Rows.{firstGiven}
-use Rattle.steps.specs.Refusals.{passRows, operandRows, restRows}
+use Rattle.steps.specs.Refusals.{passRows, accessRows, restRows}
 use Rattle.steps.specs.Pass.{performed}
 use Rattle.steps.specs.World.{World}
 use Rattle.steps.specs.Table.{decodedAt, secondWord, tableFor, checkRows, fetchRows, encodingRows, instructionRows, repeatRows}
@@ -32,7 +32,7 @@ unfolding stepOf planOf
 step-answer g w = plan-answer (w .m) _ (rowsOf g w) (page-done (decodedAt g (w .«data») (w .m)) g (w .«data») (w .m))
 
 table-refuses : (d : Decoded) (g : Given) («data» : List ℕ) (outputLength : ℕ) (m : Machine) → Refusals (tableFor d g «data» outputLength m)
-unfolding tableFor checkRows fetchRows encodingRows instructionRows repeatRows passRows operandRows restRows
+unfolding tableFor checkRows fetchRows encodingRows instructionRows repeatRows passRows accessRows restRows
 table-refuses (Built i) g «data» outputLength m = all-refuse (tableFor (Built i) g «data» outputLength m) refl
 table-refuses Unbuilt g «data» outputLength m = all-refuse (tableFor Unbuilt g «data» outputLength m) refl
 table-refuses Nothing g «data» outputLength m = all-refuse (tableFor Nothing g «data» outputLength m) refl

@@ -5,11 +5,11 @@ use Rattle.addressing.proofs.table_address.Tie as tie
 
 returns : tie.Need-returns
 unfolding tableAddress
-returns c = rw (eq-eqb _ _ (c .if1 .taken))
+returns c = rw (eq-eqb (c .before .before .args .m .mid) 0 (c .if1 .taken))
 
 returns-2 : tie.Need-returns-2
 unfolding tableAddress
-returns-2 c = rw (ne-eqb _ _ (c .if1 .left))
+returns-2 c = rw (ne-eqb (c .before .before .args .m .mid) 0 (c .if1 .left))
 
 pub table-address-spec : {M : Type 1} → statement M
 table-address-spec =

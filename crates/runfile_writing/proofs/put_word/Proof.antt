@@ -1,12 +1,13 @@
 use Rattle.runfile.specs.Files.{bytesOf}
-use native.Mathlib.Numerals.{add-one}
+use Rattle.runfile_writing.specs.WritingLaws.{word-put}
 use borrow.Author.Needs.{needs}
 use Rattle.runfile_writing.proofs.put_word.Statement.{statement}
 use Rattle.runfile_writing.proofs.put_word.Tie as tie
+use Prim.Native.Nat.{_/_, _%_}
 
 returns : tie.Need-returns
 unfolding bytesOf
-returns c = rw add-one
+returns c = word-put (c .args .bytes .now) (c .args .at) (c .args .word % 256) (c .args .word / 256)
 
 pub put-word-spec : {M : Type 1} → statement M
 put-word-spec =

@@ -1,16 +1,16 @@
 use Rattle.steps.specs.Rows.{firstGiven}
-use Rattle.steps.specs.Refusals.{operandRows, addressAbove, dataAbsent}
+use Rattle.steps.specs.Refusals.{accessRows, addressAbove, dataAbsent}
 use borrow.Author.Tests.{lt-ltb, le-ltb}
 use borrow.Author.Needs.{needs}
-use Rattle.refusals.proofs.operand_refusal.Statement.{statement}
-use Rattle.refusals.proofs.operand_refusal.Tie as tie
+use Rattle.refusals.proofs.access_refusal.Statement.{statement}
+use Rattle.refusals.proofs.access_refusal.Tie as tie
 
 returns : tie.Need-returns
-unfolding firstGiven operandRows addressAbove dataAbsent
+unfolding firstGiven accessRows addressAbove dataAbsent
 returns c = rw (← c .before .is-wrong-port .ensures, c .if1 .taken)
 
 returns-2 : tie.Need-returns-2
-unfolding firstGiven operandRows addressAbove dataAbsent
+unfolding firstGiven accessRows addressAbove dataAbsent
 returns-2 c =
     rw (
       ← c .before .before .before .is-wrong-port .ensures,
@@ -21,7 +21,7 @@ returns-2 c =
     )
 
 returns-3 : tie.Need-returns-3
-unfolding firstGiven operandRows addressAbove dataAbsent
+unfolding firstGiven accessRows addressAbove dataAbsent
 returns-3 c =
     rw (
       ← c .before .before .before .before .before .is-wrong-port .ensures,
@@ -34,7 +34,7 @@ returns-3 c =
     )
 
 returns-4 : tie.Need-returns-4
-unfolding firstGiven operandRows addressAbove dataAbsent
+unfolding firstGiven accessRows addressAbove dataAbsent
 returns-4 c =
     rw (
       ← c .before .before .before .before .before .is-wrong-port .ensures,
@@ -47,11 +47,11 @@ returns-4 c =
     )
 
 returns-5 : tie.Need-returns-5
-unfolding firstGiven operandRows addressAbove dataAbsent
+unfolding firstGiven accessRows addressAbove dataAbsent
 returns-5 c = rw (← c .before .before .is-wrong-port .ensures, ← c .before .before .before .is-accessed .ensures, c .before .if1 .left, c .if2 .left)
 
-pub operand-refusal-spec : {M : Type 1} → statement M
-operand-refusal-spec =
+pub access-refusal-spec : {M : Type 1} → statement M
+access-refusal-spec =
     tie.close
     (tie.spec
     (λ c κs. search needs)
