@@ -9,9 +9,6 @@ use lib.ListN.{length, length-append}
 use borrow.Author.Tests.{ltb-true, ltb-false}
 use Rattle.line_digits.specs.Digits.{digitOf, decimal}
 use Rattle.line_digits.specs.DigitLaws.{decimal-one, decimal-more}
-use Rattle.answers.specs.declared.Answer.{Answer}
-use Rattle.answers.specs.declared.Answer.the-variants.{Done, CellOutOfRange, SlicesUnfit, NoEncoding, NotBuilt, ProgramAbsent, DataAbsent, NotRepeatable, AddressAbove, WrongPort, OutputFull, FileShort, FileVersion, FileRules, FileNoRoom}
-use Rattle.answers.specs.Numbers.{numberOf}
 
 pub one-digit : (n : ℕ) → n < 10 → length (decimal n) ≤ 1
 one-digit n h = omega (arith, ap length (decimal-one n h))
@@ -38,21 +35,3 @@ four-digits n h = one-more 1000 3 n three-digits h
 
 pub five-digits : (n : ℕ) → n < 100000 → length (decimal n) ≤ 5
 five-digits n h = one-more 10000 4 n four-digits h
-
--- no answer's number has three
-pub number-below : (a : Answer) → numberOf a < 100
-number-below Done = omega arith
-number-below CellOutOfRange = omega arith
-number-below SlicesUnfit = omega arith
-number-below NoEncoding = omega arith
-number-below NotBuilt = omega arith
-number-below ProgramAbsent = omega arith
-number-below DataAbsent = omega arith
-number-below NotRepeatable = omega arith
-number-below AddressAbove = omega arith
-number-below WrongPort = omega arith
-number-below OutputFull = omega arith
-number-below FileShort = omega arith
-number-below FileVersion = omega arith
-number-below FileRules = omega arith
-number-below FileNoRoom = omega arith

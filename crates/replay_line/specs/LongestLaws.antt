@@ -10,7 +10,7 @@ use Rattle.machine.specs.declared.Machine.{Machine}
 use Rattle.machine.specs.RangeLaws.{ranged, most}
 use Rattle.answers.specs.declared.Answer.the-variants.{Done}
 use Rattle.answers.specs.Numbers.{numberOf, isDone}
-use Rattle.answers.specs.NumberLaws.{done-is}
+use Rattle.answers.specs.NumberLaws.{done-is, number-below}
 use Rattle.board.specs.SliceLaws.{slices-fit}
 use Rattle.board.specs.Windows.{wordsSent, wordsSentAnswer}
 use Rattle.board.specs.Given.{Given}
@@ -29,7 +29,7 @@ use Rattle.line.specs.Lines.{refusedLine, parted}
 use Rattle.line.specs.LineLaws.{line-of}
 use Rattle.replay_line.specs.Replay.{startOf, replayRun, runLine, replayLine, givenOf}
 use Rattle.replay_line.specs.Longest.{longestLine, LineWithin, LineWhole}
-use Rattle.replay_line.specs.Digits.{one-digit, two-digits, five-digits, number-below}
+use Rattle.replay_line.specs.Digits.{one-digit, two-digits, five-digits}
 use Rattle.replay_line.specs.Start.{replay-starts}
 
 -- a run does no more steps than its budget
