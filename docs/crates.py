@@ -16,7 +16,7 @@ HERE = os.path.dirname(os.path.abspath(__file__))
 LIST = os.path.join(HERE, '..', 'crates.txt')
 PICTURE = os.path.join(HERE, 'crates.svg')
 
-TITLE, COLUMN, BETWEEN, ROW, BOX, GAP = 300, 144, 28, 28, 20, 16
+TITLE, COLUMN, BETWEEN, ROW, BOX, GAP = 300, 160, 28, 28, 20, 16
 STYLE = ('text{font:12px sans-serif}.name{font-weight:bold;font-size:14px}.layer{fill:#f2f2f2}'
          '.crate{fill:#fff;stroke:#333}path{stroke:#888;fill:none}')
 
