@@ -2,28 +2,30 @@
 use mathlib.Core.Path.{_≡_, refl, sym, subst, _∙_, ap}
 use mathlib.Core.Bool.{Bool, true, false, not}
 use mathlib.Core.List.{List, [], _∷_, map}
-use Prim.Native.Nat.{ℕ, zero, suc, _/_, _%_, _<_}
+use Prim.Native.Nat.{ℕ, zero, suc, _/_, _%_, _<_, _^_}
 use Prim.Native.String.{String}
-use native.Mathlib.Nat.{le-of-suc-le-suc, not-suc-le-zero}
+use native.Mathlib.Nat.{le-of-suc-le-suc, not-suc-le-zero, mod-lt}
 use native.Mathlib.Omega.{arith}
 use lib.Dec.{T, eqb, eqb→eq}
 use lib.ListN.{length}
 use lib.Text.{eqt→eq}
+use lib.Pow.{pow-pos}
 use Rattle.instructions.specs.Every.{both-left, both-right, all, by-order}
-use Rattle.instructions.specs.Encoding.{Page, page, pick, both, fits, has, means, lowFits, addressModeOf, indirectOf}
+use Rattle.instructions.specs.Encoding.{Page, page, pick, both, fits, has, means, lowFits, addressModeOf, indirectOf, under, widthOf}
 use Rattle.instructions.specs.Pages.{pages}
 use Rattle.instructions.specs.Decode.{decodeOf, isBuilt}
-use Rattle.instructions.specs.Places.{placeIn, meaningIn, meaningAt, decode-at-place}
+use Rattle.instructions.specs.Places.{placeIn, meaningIn, meaningAt, decode-at-place, page-count}
 use Rattle.instructions.specs.Past.{shared-unbuilt, past-pages}
 use Rattle.pages_apart.specs.Apart.{own-meaning}
 use Rattle.pages_apart.specs.Having.{hasAt}
 use Rattle.instructions.specs.declared.Instruction.{Instruction}
 use Rattle.instructions.specs.declared.Decoded.{Decoded}
 use Rattle.instructions.specs.declared.Decoded.the-variants.{Built, Unbuilt, Nothing}
-use Rattle.encodings.specs.Encode.{text, isIndirect, addressBits, indirectBits, wordOf, encodeOf}
-use Rattle.encodings.specs.Spelled.{framed, everyRow, all-framed, read, word-back}
+use Rattle.encodings.specs.Encode.{text, isIndirect, addressBits, indirectBits, wordOf, encodeOf, fieldsOf}
+use Rattle.encodings.specs.Spelled.{framed, everyRow, all-framed, read, word-back, numbered, letters, own-text}
 use Rattle.encodings.specs.Rows.{fields, isOperand, isBranchPage, unread, readWhere, readBuilt, plain-rows, operand-rows, branch-rows, same-rows}
 use Rattle.encodings.specs.Cleared.{cleared, lowTest, low-test, operandFields, branchOperand, operands-tested, branches-tested, same-operand, clearedWord, cleared-lt, cleared-low, cleared-upper}
+use Rattle.encodings.specs.Within.{Within, FieldsWithin}
 
 -- a word of a page that decodes to what w decodes to there, and that is the word of it
 record Kept (r : Page) (w : ℕ) : Type 0 where
@@ -31,6 +33,7 @@ record Kept (r : Page) (w : ℕ) : Type 0 where
   below : v < 65536
   owned : T (has r v)
   same : means r v ≡ means r w
+  read-as : fields (means r v) ≡ read r v
   spelt : wordOf (fields (means r v)) ≡ v
 
 both-join : (a b : Bool) → T a → T b → T (both a b)
@@ -46,6 +49,7 @@ keep r v w i f b h o m e =
       below = h;
       owned = o;
       same = m;
+      read-as = e ∙ ap (λ (d : Decoded). readWhere d r v) (m ∙ b);
       spelt = ap wordOf (e ∙ ap (λ (d : Decoded). readWhere d r v) (m ∙ b)) ∙ word-back r v f h (both-left (fits (r .upper) 8 (v / 256)) (lowFits (r .lower) (v % 256)) o)
           (both-left (fits (r .lower) 8 (v % 256)) _ (both-right (fits (r .upper) 8 (v / 256)) (lowFits (r .lower) (v % 256)) o));
     }
@@ -174,11 +178,16 @@ kept-at p w i l m h t =
 not-built : (d : Decoded) (i : Instruction) → d ≡ Built i → T (not (isBuilt d)) → ⊥
 not-built d i e t = subst (λ (x : Decoded). T (not (isBuilt x))) e t
 
--- Decoding the word of an instruction that some word decodes to gives that instruction.
-pub decode-encode : (w : ℕ) (i : Instruction) → w < 65536 → decodeOf w ≡ Built i → decodeOf (encodeOf i) ≡ Built i
-unfolding meaningAt encodeOf fields
-decode-encode w i h e =
-    by-order p 130 own
+-- the page of a word that decodes to an instruction, and a word of it that is the instruction's
+record Own (w : ℕ) (i : Instruction) : Type 0 where
+  place : placeIn pages w < 130
+  kept : Kept (rowAt pages (placeIn pages w)) w
+  built : means (rowAt pages (placeIn pages w)) (kept .v) ≡ Built i
+
+own : (w : ℕ) (i : Instruction) → w < 65536 → decodeOf w ≡ Built i → Own w i
+unfolding meaningAt
+own w i h e =
+    by-order p 130 found
     (λ a. by-order p 133 (λ b. absurd (not-built Unbuilt i (sym (shared-unbuilt p w a b) ∙ m) tt))
     (λ b. absurd (not-built Nothing i (sym (past-pages p w b) ∙ m) tt)))
   where
@@ -188,17 +197,44 @@ decode-encode w i h e =
     m : meaningAt (placeIn pages w) w ≡ Built i
     m = sym (decode-at-place w) ∙ e
 
-    own : placeIn pages w < 130 → decodeOf (encodeOf i) ≡ Built i
-    own l =
+    found : placeIn pages w < 130 → Own w i
+    found l =
         let r : Page = rowAt pages (placeIn pages w) in
         let n : placeIn pages w < 133 = omega arith in
         let t : T (has r w) = subst (λ (b : Bool). T b) (has-at pages (placeIn pages w) w n) (place-has pages w n) in
         let b : means r w ≡ Built i = sym (means-at pages (placeIn pages w) w n) ∙ m in
         let k : Kept r w = kept-at (placeIn pages w) w i n b h t in
-        let q : means r (k .v) ≡ Built i = k .same ∙ b in
-        let s : encodeOf i ≡ k .v = ap (λ (d : Decoded). wordOf (fields d)) (sym q) ∙ k .spelt in
-        ap decodeOf s
-        ∙ own-meaning (placeIn pages w) (k .v) (k .below) l
-        (subst (λ (b : Bool). T b) (sym (has-at pages (placeIn pages w) (k .v) n)) (k .owned))
-        ∙ means-at pages (placeIn pages w) (k .v) n
-        ∙ q
+        record { place = l; kept = k; built = k .same ∙ b }
+
+-- Decoding the word of an instruction that some word decodes to gives that instruction.
+pub decode-encode : (w : ℕ) (i : Instruction) → w < 65536 → decodeOf w ≡ Built i → decodeOf (encodeOf i) ≡ Built i
+unfolding encodeOf fields
+decode-encode w i h e =
+    let o = own w i h e in
+    let k = o .kept in
+    let n : placeIn pages w < 133 = omega (arith, o .place) in
+    let s : encodeOf i ≡ k .v = ap (λ (d : Decoded). wordOf (fields d)) (sym (o .built)) ∙ k .spelt in
+    ap decodeOf s
+    ∙ own-meaning (placeIn pages w) (k .v) (k .below) (o .place)
+    (subst (λ (b : Bool). T b) (sym (has-at pages (placeIn pages w) (k .v) n)) (k .owned))
+    ∙ means-at pages (placeIn pages w) (k .v) n
+    ∙ o .built
+
+-- ---- the widths of fields
+
+under-lt : (t : String) (n w : ℕ) (c : String) → under t n w c < 2 ^ widthOf t c n
+under-lt t n w c = mod-lt _ (pow-pos (widthOf t c n))
+
+numbered-within : (t : String) (w : ℕ) (cs : List String) → Within t (numbered (under t 16 w) cs)
+numbered-within t w [] = tt
+numbered-within t w (c ∷ cs) = (under-lt t 16 w c, numbered-within t w cs)
+
+-- The fields of an instruction that some word decodes to are within the bits that its page prints for them.
+pub fields-within : (w : ℕ) (i : Instruction) → w < 65536 → decodeOf w ≡ Built i → FieldsWithin (fieldsOf i)
+unfolding fields
+fields-within w i h e =
+    let o = own w i h e in
+    let r : Page = rowAt pages (placeIn pages w) in
+    let f : T (framed r) = every-at framed pages (placeIn pages w) (omega (arith, o .place, page-count)) all-framed in
+    let is : fieldsOf i ≡ read r (o .kept .v) = ap fields (sym (o .built)) ∙ o .kept .read-as in
+    subst FieldsWithin (sym is) (subst (λ (t : String). Within t (read r (o .kept .v) .1)) (sym (own-text r f)) (numbered-within (text r) (o .kept .v) (letters (text r) 16)))

@@ -10,7 +10,6 @@ use Rattle.instructions.specs.Every.{all, all-at, by-order}
 use Rattle.instructions.specs.Encoding.{pick, both, lowFits, addressModeOf, indirectOf, nextOf, modificationOf}
 use Rattle.operands.specs.declared.Address.the-variants as operand
 use Rattle.encodings.specs.Encode.{isIndirect, addressBits, indirectBits, modificationBits, nextBits}
-use Rattle.encodings.specs.Rows.{fields}
 
 -- A low byte without the bits that are free: 2 to 0 of an indirect operand whose bit 3 is 0.
 unfoldable pub cleared : ℕ → ℕ

@@ -1,5 +1,6 @@
 -- definitions
 pub mod Encode
+pub mod Within
 -- laws
 pub mod Bits
 pub mod Spelled

@@ -10,7 +10,7 @@ use lib.Text.{eqt, eqt→eq}
 use lib.Pow.{shr-shr}
 use borrow.Author.Tests.{lt-ltb, le-ltb}
 use Rattle.instructions.specs.Every.{both-left, both-right, all, all-at, by-order}
-use Rattle.instructions.specs.Encoding.{Page, pick, both, printedAt, allows, fits, widthOf, lowestOf, under, has}
+use Rattle.instructions.specs.Encoding.{Page, pick, both, printedAt, allows, fits, widthOf, lowestOf, under}
 use Rattle.instructions.specs.Pages.{pages}
 use Rattle.encodings.specs.Encode.{bitOf, bitsAfter, text, letterNumber, printed, wordOf}
 use Rattle.encodings.specs.Bits.{bits-after, bit-of-low, bit-of-field}
@@ -59,6 +59,11 @@ framedAt r j =
 pub framed : Page → Bool
 framed r = both (all (framedAt r) 4 0) (eqt (printed pages (r .name)) (text r))
 
+-- what the page of a page's name prints
+pub own-text : (r : Page) → T (framed r) → printed pages (r .name) ≡ text r
+unfolding framed
+own-text r f = eqt→eq (printed pages (r .name)) (text r) (both-right (all (framedAt r) 4 0) (eqt (printed pages (r .name)) (text r)) f)
+
 unfoldable pub everyRow : (Page → Bool) → List Page → Bool
 everyRow f [] = true
 everyRow f (r ∷ rs) = both (f r) (everyRow f rs)
@@ -101,8 +106,7 @@ word-back r w f h u l =
     let z : 0 ≡ w / 2 ^ 16 = omega arith in
     let t : String = text r in
     let v : String → ℕ = letterNumber (numbered (under t 16 w) (letters t 16)) in
-    let e : printed pages (r .name) ≡ t = eqt→eq (printed pages (r .name)) t (both-right (all (framedAt r) 4 0) (eqt (printed pages (r .name)) t) f) in
-    ap (λ (s : String). bitsAfter s v 0 16) e
+    ap (λ (s : String). bitsAfter s v 0 16) (own-text r f)
     ∙ ap (λ (n : ℕ). bitsAfter t v n 16) z
     ∙ bits-after t v w 16
     (λ j o. bit j o (all-at (framedAt r) 4 0 j (both-left (all (framedAt r) 4 0) (eqt (printed pages (r .name)) t) f) (omega arith) (omega arith)))

@@ -1,8 +1,8 @@
--- The fields of a decoded instruction are within their widths, since its page takes them from so many bits: proofs.
-use mathlib.Core.Path.{_≡_, refl}
+-- The operand and the numbers of a decoded instruction are within their bits, since its page takes them from so many: proofs.
+use mathlib.Core.Path.{_≡_, refl, ap}
 use mathlib.Core.Bool.{Bool, true, false}
-use mathlib.Core.List.{List, [], _∷_, _++_}
-use Prim.Native.Nat.{ℕ, _/_, _%_}
+use mathlib.Core.List.{List, [], _∷_, map}
+use Prim.Native.Nat.{ℕ, _/_, _%_, _<_}
 use native.Mathlib.Omega.{arith}
 use lib.Dec.{eqb, ltb}
 use borrow.Author.Tests.{ltb-true}
@@ -11,15 +11,18 @@ use Rattle.operands.specs.declared.Address.the-variants as Mode
 use Rattle.instructions.specs.declared.Decoded.{Decoded}
 use Rattle.instructions.specs.declared.Decoded.the-variants.{Built, Unbuilt, Nothing}
 use Rattle.instructions.specs.Encoding.{Page, pick, has, means, first, addressModeOf, indirectOf, nextOf}
-use Rattle.instructions.specs.Pages.{accumulatorPages, multiplierPages, auxiliaryPages, branchPages, transferPages, modePages, basePages, otherPages, pages}
+use Rattle.instructions.specs.Pages.{pages}
 use Rattle.instructions.specs.Decode.{decodeOf}
+use Rattle.encodings.specs.Rows.{isOperand, isBranchPage}
+use Rattle.encodings.specs.Back.{fields-within}
+use Rattle.pages.specs.declared.Operand.{Operand}
+use Rattle.pages.specs.declared.Operand.the-variants as Operand
+use Rattle.pages.specs.Traits.{traitsOf, accumulatorTraits, multiplierTraits, auxiliaryTraits, branchesTraits, transfersTraits, modesTraits}
 use Rattle.machine.specs.declared.Machine.{Machine}
 use Rattle.board.specs.Windows.{programWord}
 use Rattle.board.specs.Given.{Given}
-use Rattle.pages.specs.Traits.{traitsOf, accumulatorTraits, multiplierTraits, auxiliaryTraits, branchesTraits, transfersTraits, modesTraits}
 use Rattle.steps.specs.Table.{decodedAt}
-use Rattle.laws.specs.Steps.{_and_}
-use Rattle.ranges.specs.Fields.{NextFits, IndirectFits, AddressFits, FieldsFit, DecodedFits}
+use Rattle.ranges.specs.Fields.{NextFits, IndirectFits, AddressFits, OperandFits, DecodedFits}
 
 next-fits : (low : ℕ) → NextFits (nextOf low)
 unfolding nextOf
@@ -41,191 +44,67 @@ address-fits low = by (ltb low 128) refl
     by true e = ltb-true _ _ e
     by false e = indirect-fits low
 
--- whatever the word, what each page of a list makes of it has fields within their widths
-RowsFit : List Page → Type 0
-RowsFit [] = Unit {0}
-RowsFit (r ∷ rs) = ((w : ℕ) → DecodedFits (means r w)) × RowsFit rs
+-- ---- the operand, by the low byte that the page prints
 
-joined : (a b : List Page) → RowsFit a → RowsFit b → RowsFit (a ++ b)
-unfolding RowsFit
-joined [] b f g = g
-joined (r ∷ a) b f g = f .0 and joined a b (f .1) g
+abbrev printedOperand : Page → ℕ → Operand
+printedOperand r w =
+    pick (isOperand r) (Operand.At (addressModeOf (w % 256)))
+    (pick (isBranchPage r) (Operand.At (Mode.Indirect (indirectOf (w % 256)))) Operand.Nothing)
 
--- a page with no operand and no number; with an operand, or a branch's, and no number; and with an operand and a number
-no-field : ℕ → Unit {0} × Unit {0}
-no-field w = (tt, tt)
-
-operand : (w : ℕ) → AddressFits (addressModeOf (w % 256)) × Unit {0}
-operand w = (address-fits (w % 256), tt)
-
-indirect : (w : ℕ) → IndirectFits (indirectOf (w % 256)) × Unit {0}
-indirect w = (indirect-fits (w % 256), tt)
-
-with-operand : {N : ℕ → Type 0} → ((w : ℕ) → N w) → (w : ℕ) → AddressFits (addressModeOf (w % 256)) × N w
-with-operand n w = (address-fits (w % 256), n w)
-
-accumulator-pages : RowsFit accumulatorPages
-unfolding RowsFit traitsOf accumulatorTraits
-accumulator-pages =
-    with-operand (λ w. omega arith)
-    and with-operand (λ w. omega arith)
-    and with-operand (λ w. omega arith)
-    and operand
-    and operand
-    and operand
-    and operand
-    and operand
-    and operand
-    and operand
-    and operand
-    and operand
-    and operand
-    and with-operand (λ w. omega arith)
-    and with-operand (λ w. omega arith)
-    and (λ w. (tt, omega arith))
-    and (λ w. (tt, omega arith))
-    and (λ w. (tt, omega arith))
-    and no-field
-    and no-field
-    and no-field
-    and no-field
-    and no-field
-    and tt
-
-multiplier-pages : RowsFit multiplierPages
-unfolding RowsFit traitsOf multiplierTraits
-multiplier-pages =
-    operand
-    and operand
-    and operand
-    and operand
-    and operand
-    and operand
-    and operand
-    and operand
-    and operand
-    and operand
-    and operand
-    and operand
-    and operand
-    and operand
-    and (λ w. (tt, omega arith))
-    and no-field
-    and no-field
-    and no-field
-    and (λ w. (tt, omega arith))
-    and tt
-
-auxiliary-pages : RowsFit auxiliaryPages
-unfolding RowsFit traitsOf auxiliaryTraits
-auxiliary-pages =
-    with-operand (λ w. omega arith)
-    and with-operand (λ w. omega arith)
-    and operand
-    and operand
-    and (λ w. (tt, (omega arith, omega arith)))
-    and (λ w. (tt, omega arith))
-    and (λ w. (tt, omega arith))
-    and (λ w. (tt, omega arith))
-    and tt
-
-branch-pages : RowsFit branchPages
-unfolding RowsFit traitsOf branchesTraits
-branch-pages =
-    indirect
-    and indirect
-    and indirect
-    and indirect
-    and indirect
-    and indirect
-    and indirect
-    and indirect
-    and indirect
-    and indirect
-    and indirect
-    and no-field
-    and tt
-
-transfer-pages : RowsFit transferPages
-unfolding RowsFit traitsOf transfersTraits
-transfer-pages =
-    operand
-    and with-operand (λ w. omega arith)
-    and with-operand (λ w. omega arith)
-    and tt
-
-mode-pages : RowsFit modePages
-unfolding RowsFit traitsOf modesTraits
-mode-pages =
-    operand
-    and (λ w. (tt, omega arith))
-    and no-field
-    and no-field
-    and no-field
-    and no-field
-    and no-field
-    and no-field
-    and no-field
-    and no-field
-    and tt
-
--- of what a page makes of a word: its fields, before the others', where it is built
-OthersAfter : Decoded → Type 0 → Type 0
-OthersAfter (Built i) others = FieldsFit i × others
-OthersAfter Unbuilt others = others
-OthersAfter Nothing others = others
-
--- what is to be shown of a list of pages at a word: the fields of those that are built
-BuiltFit : List Page → ℕ → Type 0
-BuiltFit [] w = Unit {0}
-BuiltFit (r ∷ rs) w = OthersAfter (means r w) (BuiltFit rs w)
-
-this-fits : (d : Decoded) (others : Type 0) → OthersAfter d others → DecodedFits d
-unfolding OthersAfter
-this-fits (Built i) others f = f .0
-this-fits Unbuilt others f = tt
-this-fits Nothing others f = tt
-
-others-after : (d : Decoded) (others : Type 0) → OthersAfter d others → others
-unfolding OthersAfter
-others-after (Built i) others f = f .1
-others-after Unbuilt others f = f
-others-after Nothing others f = f
-
-others-fit : (rs : List Page) → ((w : ℕ) → BuiltFit rs w) → RowsFit rs
-unfolding RowsFit BuiltFit
-others-fit [] f = tt
-others-fit (r ∷ rs) f = (λ w. this-fits (means r w) (BuiltFit rs w) (f w)) and others-fit rs (λ w. others-after (means r w) (BuiltFit rs w) (f w))
-
--- a line for each page not in the base that is built, in the order of the list
-other-pages : RowsFit otherPages
-unfolding BuiltFit OthersAfter
-other-pages = others-fit otherPages (λ w. tt)
-
-pages-fit : RowsFit pages
-pages-fit =
-    joined basePages _
-    (joined accumulatorPages _ accumulator-pages
-    (joined multiplierPages _ multiplier-pages
-    (joined auxiliaryPages _ auxiliary-pages
-    (joined branchPages _ branch-pages
-    (joined transferPages _ transfer-pages mode-pages)))))
-    other-pages
-
-first-fits : (rs : List Page) (w : ℕ) → RowsFit rs → DecodedFits (first rs w)
-unfolding RowsFit
-first-fits [] w f = tt
-first-fits (r ∷ rs) w f = by (has r w) (first-fits rs w (f .1))
+printed-fits : (r : Page) (w : ℕ) → OperandFits (printedOperand r w)
+printed-fits r w = by (isOperand r) (isBranchPage r)
   where
-    by : (t : Bool) → DecodedFits (first rs w) → DecodedFits (pick t (means r w) (first rs w))
-    by true next = f .0 w
-    by false next = next
+    by : (o b : Bool) → OperandFits (pick o (Operand.At (addressModeOf (w % 256))) (pick b (Operand.At (Mode.Indirect (indirectOf (w % 256)))) Operand.Nothing))
+    by true b = address-fits (w % 256)
+    by false true = indirect-fits (w % 256)
+    by false false = tt
 
--- for every word
-pub decoded-fields : (w : ℕ) → DecodedFits (decodeOf w)
+-- the operand of what a word is; the one that is given, where it is no instruction
+abbrev operandOr : Operand → Decoded → Operand
+operandOr o (Built i) = traitsOf i .operand
+operandOr o Unbuilt = o
+operandOr o Nothing = o
+
+-- over all pages: the operand of an instruction is the one that its page prints
+operands-printed : (w : ℕ) → map (λ r. operandOr (printedOperand r w) (means r w)) pages ≡ map (λ r. printedOperand r w) pages
+unfolding traitsOf accumulatorTraits multiplierTraits auxiliaryTraits branchesTraits transfersTraits modesTraits
+operands-printed w = refl
+
+row-fits : (d : Decoded) (o : Operand) → operandOr o d ≡ o → OperandFits o → OperandFits (operandOr Operand.Nothing d)
+row-fits (Built i) o e f = rw e f
+row-fits Unbuilt o e f = tt
+row-fits Nothing o e f = tt
+
+abbrev headOr : Operand → List Operand → Operand
+headOr o [] = o
+headOr o (x ∷ xs) = x
+
+abbrev rest : List Operand → List Operand
+rest [] = []
+rest (x ∷ xs) = xs
+
+first-fits : (rs : List Page) (w : ℕ) → map (λ r. operandOr (printedOperand r w) (means r w)) rs ≡ map (λ r. printedOperand r w) rs
+    → OperandFits (operandOr Operand.Nothing (first rs w))
+first-fits [] w e = tt
+first-fits (r ∷ rs) w e =
+    by (has r w) (row-fits (means r w) (printedOperand r w) (ap (headOr Operand.Nothing) e) (printed-fits r w)) (first-fits rs w (ap rest e))
+  where
+    by : (t : Bool) → OperandFits (operandOr Operand.Nothing (means r w)) → OperandFits (operandOr Operand.Nothing (first rs w))
+        → OperandFits (operandOr Operand.Nothing (pick t (means r w) (first rs w)))
+    by true f next = f
+    by false f next = next
+
+-- ---- for every word of 16 bits
+
+pub decoded-fields : (w : ℕ) → w < 65536 → DecodedFits (decodeOf w)
 unfolding decodeOf
-decoded-fields w = first-fits pages w pages-fit
+decoded-fields w h = by (first pages w) refl (first-fits pages w (operands-printed w))
+  where
+    by : (d : Decoded) → decodeOf w ≡ d → OperandFits (operandOr Operand.Nothing d) → DecodedFits d
+    by (Built i) e f = record { operand = f; numbers = fields-within w i h e }
+    by Unbuilt e f = tt
+    by Nothing e f = tt
 
-pub fields-at : (g : Given) («data» : List ℕ) (m : Machine) → DecodedFits (decodedAt g «data» m)
+pub fields-at : (g : Given) («data» : List ℕ) (m : Machine) → programWord (m .cnf) (m .pc) (g .rom) «data» < 65536 → DecodedFits (decodedAt g «data» m)
 unfolding decodedAt
-fields-at g «data» m = decoded-fields (programWord (m .cnf) (m .pc) (g .rom) «data»)
+fields-at g «data» m h = decoded-fields (programWord (m .cnf) (m .pc) (g .rom) «data») h

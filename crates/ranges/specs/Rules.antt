@@ -42,7 +42,8 @@ use Rattle.pages.specs.Traits.{traitsOf, transfersTraits}
 use Rattle.steps.specs.Refusals.{sends}
 use Rattle.pages.specs.declared.Words.{Words}
 use Rattle.pages.specs.Rules.{ruleOf}
-use Rattle.ranges.specs.Fields.{NumbersFit, accumulatorFits, multiplierFits, auxiliaryFits, modesFits}
+use Rattle.encodings.specs.Encode.{accumulatorFields, multiplierFields, auxiliaryFields, modeFields, fieldsOf}
+use Rattle.encodings.specs.Within.{FieldsWithin}
 use Rattle.ranges.specs.Cells.{Fits, set-cell, set-register, set-pushed, set-popped, top-fits, cell-fits, register-fits}
 use Rattle.ranges.specs.Widths.{SumFits, ShiftedFits, added-fits, subtracted-fits, added-high-fits, subtracted-high-fits, negated-fits, absolute-fits, conditionally-fits, high-half-lt, operand-lt, unsigned-lt, stored-low-lt, stored-high-lt, left-fits, right-fits, anded-lt, ored-lt, xored-lt, complemented-lt, product-lt, shifted-lt, product-high-lt, product-low-lt, sum-lt, sum-le, difference-lt}
 
@@ -98,8 +99,8 @@ module _ {i o : ℕ} where
   set-shifted : {m : Machine} {s : Shifted} → Fits i o m → ShiftedFits s → Fits i o (withShifted m s)
   set-shifted f s = set-cell "C" (set-cell "ACC" f (s .acc)) (s .c)
 
-  accumulator-keeps : (x : Accumulator) {m : Machine} {w : ℕ} → Fits i o m → w < 2 ^ 16 → accumulatorFits x → EffectFits i o (accumulatorRule x m w)
-  unfolding accumulatorRule ADD SUB LAC ADDH ADDS SUBH SUBS SUBC ZALH ZALS AND OR XOR SACL SACH LACK ADDK SUBK CMPL NEG ABS SFL SFR
+  accumulator-keeps : (x : Accumulator) {m : Machine} {w : ℕ} → Fits i o m → w < 2 ^ 16 → FieldsWithin (accumulatorFields x) → EffectFits i o (accumulatorRule x m w)
+  unfolding accumulatorFields accumulatorRule ADD SUB LAC ADDH ADDS SUBH SUBS SUBC ZALH ZALS AND OR XOR SACL SACH LACK ADDK SUBK CMPL NEG ABS SFL SFR
   accumulator-keeps (Accumulator.Add s a) {m} {w} f h k = only (set-sum f (added-fits _ _ (cell-fits f "ACC") (cell-fits f "OV") (operand-lt w s (m .sxm))))
   accumulator-keeps (Accumulator.Sub s a) {m} {w} f h k = only (set-sum f (subtracted-fits _ _ (cell-fits f "ACC") (cell-fits f "OV")))
   accumulator-keeps (Accumulator.Lac s a) {m} {w} f h k = only (set-cell "ACC" f (operand-lt w s (m .sxm)))
@@ -115,8 +116,8 @@ module _ {i o : ℕ} where
   accumulator-keeps (Accumulator.Xor a) {m} {w} f h k = only (set-cell "ACC" f (xored-lt (m .acc) w (cell-fits f "ACC")))
   accumulator-keeps (Accumulator.Sacl s a) {m} {w} f h k = storing f (stored-low-lt (m .acc) s)
   accumulator-keeps (Accumulator.Sach s a) {m} {w} f h k = storing f (stored-high-lt (m .acc) s)
-  accumulator-keeps (Accumulator.Lack n) {m} {w} f h k = only (set-cell "ACC" f (omega (arith, k)))
-  accumulator-keeps (Accumulator.Addk n) {m} {w} f h k = only (set-sum f (added-fits _ _ (cell-fits f "ACC") (cell-fits f "OV") (omega (arith, k))))
+  accumulator-keeps (Accumulator.Lack n) {m} {w} f h k = let b : n < 2 ^ 8 = k .0 in only (set-cell "ACC" f (omega (arith, b)))
+  accumulator-keeps (Accumulator.Addk n) {m} {w} f h k = let b : n < 2 ^ 8 = k .0 in only (set-sum f (added-fits _ _ (cell-fits f "ACC") (cell-fits f "OV") (omega (arith, b))))
   accumulator-keeps (Accumulator.Subk n) {m} {w} f h k = only (set-sum f (subtracted-fits _ _ (cell-fits f "ACC") (cell-fits f "OV")))
   accumulator-keeps Accumulator.Cmpl {m} {w} f h k = only (set-cell "ACC" f (complemented-lt (m .acc)))
   accumulator-keeps Accumulator.Neg {m} {w} f h k = only (set-sum f (negated-fits 0 _ (cell-fits f "ACC") (cell-fits f "OV")))
@@ -140,8 +141,8 @@ module _ {i o : ℕ} where
   unfolding MAC
   MAC-fits {m} {w} f h table at = set-cell "PFC" (set-cell "P" (set-cell "T" (APAC-fits f) h) (product-lt w table)) (sum-lt at 1)
 
-  multiplier-keeps : (x : Multiplier) {m : Machine} {w : ℕ} (table at : ℕ) → Fits i o m → w < 2 ^ 16 → multiplierFits x → EffectFits i o (multiplierRule x m w table at)
-  unfolding multiplierRule LT LTA LTP LTD LTS MPY MPYA MPYS MPYK SQRA SQRS MACD SPL SPH SPM
+  multiplier-keeps : (x : Multiplier) {m : Machine} {w : ℕ} (table at : ℕ) → Fits i o m → w < 2 ^ 16 → FieldsWithin (multiplierFields x) → EffectFits i o (multiplierRule x m w table at)
+  unfolding multiplierFields multiplierRule LT LTA LTP LTD LTS MPY MPYA MPYS MPYK SQRA SQRS MACD SPL SPH SPM
   multiplier-keeps (Multiplier.Lt a) {m} {w} table at f h k = only (set-cell "T" f h)
   multiplier-keeps (Multiplier.Lta a) {m} {w} table at f h k = only (set-cell "T" (APAC-fits f) h)
   multiplier-keeps (Multiplier.Ltp a) {m} {w} table at f h k = only (set-cell "T" (PAC-fits f) h)
@@ -160,18 +161,18 @@ module _ {i o : ℕ} where
   multiplier-keeps Multiplier.Spac {m} {w} table at f h k = only (SPAC-fits f)
   multiplier-keeps (Multiplier.Spl a) {m} {w} table at f h k = storing f (product-low-lt (m .p) (m .pm))
   multiplier-keeps (Multiplier.Sph a) {m} {w} table at f h k = storing f (product-high-lt (m .p) (m .pm))
-  multiplier-keeps (Multiplier.Spm n) {m} {w} table at f h k = only (set-cell "PM" f k)
+  multiplier-keeps (Multiplier.Spm n) {m} {w} table at f h k = only (set-cell "PM" f (k .0))
 
-  auxiliary-keeps : (x : Auxiliary) {before m : Machine} {w : ℕ} → Fits i o before → Fits i o m → w < 2 ^ 16 → auxiliaryFits x → EffectFits i o (auxiliaryRule x before m w)
-  unfolding auxiliaryRule LAR SAR LARK MAR ADRK SBRK LDP LDPK
+  auxiliary-keeps : (x : Auxiliary) {before m : Machine} {w : ℕ} → Fits i o before → Fits i o m → w < 2 ^ 16 → FieldsWithin (auxiliaryFields x) → EffectFits i o (auxiliaryRule x before m w)
+  unfolding auxiliaryFields auxiliaryRule LAR SAR LARK MAR ADRK SBRK LDP LDPK
   auxiliary-keeps (Auxiliary.Lar r a) {before} {m} {w} b f h g = only (set-register f r w h)
   auxiliary-keeps (Auxiliary.Sar r a) {before} {m} {w} b f h g = storing f (register-fits b r)
-  auxiliary-keeps (Auxiliary.Lark r k) {before} {m} {w} b f h g = only (set-register f r k (omega (arith, g .1)))
+  auxiliary-keeps (Auxiliary.Lark r k) {before} {m} {w} b f h g = let n : k < 2 ^ 8 = g .1 .0 in only (set-register f r k (omega (arith, n)))
   auxiliary-keeps (Auxiliary.Mar a) {before} {m} {w} b f h g = only f
   auxiliary-keeps (Auxiliary.Adrk k) {before} {m} {w} b f h g = only (set-register f (m .arp) _ (sum-lt _ k))
   auxiliary-keeps (Auxiliary.Sbrk k) {before} {m} {w} b f h g = only (set-register f (m .arp) _ (difference-lt _ k))
   auxiliary-keeps (Auxiliary.Ldp a) {before} {m} {w} b f h g = only (set-cell "DP" f (nine w))
-  auxiliary-keeps (Auxiliary.Ldpk k) {before} {m} {w} b f h g = only (set-cell "DP" f g)
+  auxiliary-keeps (Auxiliary.Ldpk k) {before} {m} {w} b f h g = only (set-cell "DP" f (g .0))
 
   branching : (test : Bool) {m : Machine} {pma : ℕ} → Fits i o m → pma < 2 ^ 16 → EffectFits i o (branched test pma m)
   unfolding branched
@@ -204,8 +205,8 @@ module _ {i o : ℕ} where
   transfers-keeps (Transfers.Out port a) {m} dry f h k more room =
       record { m = set-cell "output cursor" f (omega (arith, sum-le (m .«output_cursor») 1, room refl)); store = h; jump = tt }
 
-  modes-keeps : (x : Modes) {m : Machine} (w : ℕ) → Fits i o m → modesFits x → EffectFits i o (modesRule x m w)
-  unfolding modesRule SOVM ROVM SSXM RSXM CNFD CNFP RPT RPTK PUSH POP
+  modes-keeps : (x : Modes) {m : Machine} (w : ℕ) → Fits i o m → FieldsWithin (modeFields x) → EffectFits i o (modesRule x m w)
+  unfolding modeFields modesRule SOVM ROVM SSXM RSXM CNFD CNFP RPT RPTK PUSH POP
   modes-keeps Modes.Sovm {m} w f g = only (set-cell "OVM" f (omega arith))
   modes-keeps Modes.Rovm {m} w f g = only (set-cell "OVM" f (omega arith))
   modes-keeps Modes.Ssxm {m} w f g = only (set-cell "SXM" f (omega arith))
@@ -213,13 +214,13 @@ module _ {i o : ℕ} where
   modes-keeps Modes.Cnfd {m} w f g = only (set-cell "CNF" f (omega arith))
   modes-keeps Modes.Cnfp {m} w f g = only (set-cell "CNF" f (omega arith))
   modes-keeps (Modes.Rpt a) {m} w f g = only (set-cell "RPTC" f (eight w))
-  modes-keeps (Modes.Rptk k) {m} w f g = only (set-cell "RPTC" f g)
+  modes-keeps (Modes.Rptk k) {m} w f g = only (set-cell "RPTC" f (g .0))
   modes-keeps Modes.Push {m} w f g = only (set-pushed f _ (sixteen (m .acc)))
   modes-keeps Modes.Pop {m} w f g = only (set-cell "ACC" (set-popped f) (omega (arith, top-fits f)))
 
-  pub rule-keeps : (x : Instruction) {before m : Machine} (words : Words) → Fits i o before → Fits i o m → WordsRead i m words → NumbersFit x
+  pub rule-keeps : (x : Instruction) {before m : Machine} (words : Words) → Fits i o before → Fits i o m → WordsRead i m words → FieldsWithin (fieldsOf x)
       → (sends (traitsOf x .port) ≡ true → m .«output_cursor» < o) → EffectFits i o (ruleOf x before m words)
-  unfolding ruleOf traitsOf
+  unfolding fieldsOf ruleOf traitsOf
   rule-keeps (Family.Accumulator x) words b f r g room = accumulator-keeps x f (r .operand) g
   rule-keeps (Family.Multiplier x) words b f r g room = multiplier-keeps x (words .table) (words .at) f (r .operand) g
   rule-keeps (Family.Auxiliary x) words b f r g room = auxiliary-keeps x b f (r .operand) g

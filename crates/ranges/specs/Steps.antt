@@ -45,7 +45,7 @@ use Rattle.ranges.specs.FieldLaws.{fields-at}
 use Rattle.ranges.specs.Cells.{Fits, words-set, set-cell, cell-fits}
 use Rattle.ranges.specs.Widths.{sum-lt}
 use Rattle.ranges.specs.Rules.{StoreFits, JumpFits, EffectFits, rule-keeps}
-use Rattle.ranges.specs.Operands.{addressed-keeps, addressed-cursors, second-lt, words-read}
+use Rattle.ranges.specs.Operands.{addressed-keeps, addressed-cursors, second-lt, words-read, program-word-lt}
 
 -- ---- the world's cells, and back
 
@@ -133,8 +133,8 @@ module _ (g : Given) (d : List ℕ) (o : ℕ) (x : Instruction) (m : Machine) (f
   effect-fits : EffectFits (length (g .input)) o (effectOf (traitsOf x) x (secondWord x g d m) g d m)
   unfolding effectOf
   effect-fits =
-      rule-keeps x (wordsRead (traitsOf x) (secondWord x g d m) g d m) f (addressed-keeps (traitsOf x .operand) (fields .0) f)
-      (words-read (traitsOf x) (secondWord x g d m) g d m (second-lt x g d m hr hd) hr hd hi) (fields .1)
+      rule-keeps x (wordsRead (traitsOf x) (secondWord x g d m) g d m) f (addressed-keeps (traitsOf x .operand) (fields .operand) f)
+      (words-read (traitsOf x) (secondWord x g d m) g d m (second-lt x g d m hr hd) hr hd hi) (fields .numbers)
       (λ e. rw (addressed-cursors (traitsOf x .operand) m .1) (room e))
 
   passed-fits : Fits (length (g .input)) o (passedMachine (traitsOf x) x (secondWord x g d m) g d m)
@@ -189,7 +189,7 @@ module _ (g : Given) (w : World) (k : WorldInRange g w) (e : stepOf g w .answer 
 
   done-in-range : WorldInRange g (stepOf g w .world)
   unfolding table
-  done-in-range = decoded-in-range (decodedAt g (w .«data») (w .m)) refl (fields-at g (w .«data») (w .m)) (row-given g w .done-only e)
+  done-in-range = decoded-in-range (decodedAt g (w .«data») (w .m)) refl (fields-at g (w .«data») (w .m) (program-word-lt (w .m .cnf) (w .m .pc) (g .rom) (w .«data») (k .rom-words) (k .data-words))) (row-given g w .done-only e)
 
 pub step-in-range : StepInRange
 step-in-range g w k =

@@ -1,0 +1,16 @@
+-- The fields of an instruction are within their bits: each number is below what the bits under its letter hold.
+use mathlib.Core.List.{List, [], _∷_}
+use Prim.Native.Nat.{ℕ, _^_, _<_}
+use Prim.Native.String.{String}
+use Rattle.instructions.specs.Encoding.{widthOf}
+use Rattle.instructions.specs.Pages.{pages}
+use Rattle.encodings.specs.Encode.{printed}
+
+-- numbers by their letters, under the letters of a text
+abbrev pub Within : String → List (String × ℕ) → Type 0
+Within t [] = Unit {0}
+Within t (e ∷ es) = (e .1 < 2 ^ widthOf t (e .0) 16) × Within t es
+
+-- a page, by its name, and the numbers of its letters
+abbrev pub FieldsWithin : String × List (String × ℕ) → Type 0
+FieldsWithin f = Within (printed pages (f .0)) (f .1)
