@@ -9,7 +9,9 @@ use pages::Traits;
 use steps::Plan;
 use steps::Write;
 ghost use mathlib.Core.Path.{_≡_};
-ghost use mathlib.Core.Bool.{not, _&&_};
+ghost use mathlib.Core.Bool.{not, cond, _&&_};
+ghost use lib.Dec.{ltb};
+ghost use Rattle.answers.specs.declared.Answer.the-variants.{AddressAbove, DataAbsent};
 ghost use Rattle.board.specs.Regions.{dataPresent, programPresent};
 ghost use Rattle.board.specs.Slices.{portSpent};
 ghost use Rattle.steps.specs.Pass.{refused};
@@ -88,23 +90,36 @@ fn is_output_full(sent: bool, output_length: usize, cursor: u16) -> bool
     false
 }
 
+fn is_data_absent(accessed: bool, cnf: u8, address: u32) -> bool
+    ensures { λ r. ⌜ r ≡ (accessed && not (dataPresent cnf address)) ⌝ }
+{
+    if accessed {
+        return !is_present(cnf, address);
+    }
+    false
+}
+
+// An address above 65,535 is absent too: 8 comes before 6.
+fn absence(address: u32) -> Answer
+    ensures { λ r. ⌜ r ≡ cond (ltb 65535 address) AddressAbove DataAbsent ⌝ }
+{
+    if 65535 < address {
+        return Answer::AddressAbove;
+    }
+    Answer::DataAbsent
+}
+
 // What is asked of the port and of the operand at this address: 9, 8 and 6.
 fn access_refusal(t: Traits, address: u32, m: Machine) -> Answer
     ensures { λ r. ⌜ r ≡ firstGiven (accessRows t address m) ⌝ }
 {
     let port = t.port;
     let access = t.access;
-    let accessed = is_accessed(access);
     if is_wrong_port(port) {
         return Answer::WrongPort;
     }
-    if accessed {
-        if 65535 < address {
-            return Answer::AddressAbove;
-        }
-        if !is_present(m.cnf, address) {
-            return Answer::DataAbsent;
-        }
+    if is_data_absent(is_accessed(access), m.cnf, address) {
+        return absence(address);
     }
     Answer::Done
 }
