@@ -110,8 +110,8 @@ static void decode_counts(void)
         counts[answer]++;
         expect("one encoding at most", plain_matches((uint16_t)word) <= 1, 1);
     }
-    expect("R9 base words", counts[0], 47141);
-    expect("R9 words not in the base", counts[4], 9097);
+    expect("R9 built words", counts[0], 47141);
+    expect("R9 words not built", counts[4], 9097);
     expect("R9 words in no encoding", counts[3], 9298);
 
     /* R1, R2 */
@@ -137,7 +137,7 @@ static void decode_counts(void)
 /* R3, the whole list of upper byte CEh. */
 static void decode_ce(void)
 {
-    static const struct { uint8_t low; const char *name; } base[] = {
+    static const struct { uint8_t low; const char *name; } built[] = {
         { 0x02, "ROVM" }, { 0x03, "SOVM" }, { 0x04, "CNFD" }, { 0x05, "CNFP" },
         { 0x06, "RSXM" }, { 0x07, "SSXM" }, { 0x08, "SPM" },  { 0x09, "SPM" },
         { 0x0A, "SPM" },  { 0x0B, "SPM" },  { 0x14, "PAC" },  { 0x15, "APAC" },
@@ -154,9 +154,9 @@ static void decode_ce(void)
     const char *names[256] = { NULL };
     for (int i = 0; i < 256; i++)
         want[i] = 3;
-    for (size_t i = 0; i < sizeof base / sizeof base[0]; i++) {
-        want[base[i].low] = 0;
-        names[base[i].low] = base[i].name;
+    for (size_t i = 0; i < sizeof built / sizeof built[0]; i++) {
+        want[built[i].low] = 0;
+        names[built[i].low] = built[i].name;
     }
     for (size_t i = 0; i < sizeof other; i++)
         want[other[i]] = 4;
@@ -168,7 +168,7 @@ static void decode_ce(void)
     }
 }
 
-/* Table 4-4 (G 1959 on): the upper bytes of the base, written out again. */
+/* Table 4-4 (G 1959 on): the upper bytes that are built, written out again. */
 static void decode_table(void)
 {
     static const struct { uint8_t first, last; const char *name; } upper[] = {
@@ -214,13 +214,13 @@ static void decode_table(void)
                         plain_name(word), upper[i].name), 0);
             }
         }
-    /* No base word has another upper byte, CEh excepted. */
+    /* No built word has another upper byte, CEh excepted. */
     for (unsigned word = 0; word < 0x10000; word++)
         if (!in_table[word >> 8] && word >> 8 != 0xCE)
             expect("Table 4-4 rest", plain_decode((uint16_t)word) != 0, 1);
 }
 
-/* Appendix D (G 15597): which of the base are not repeatable. Answer 7. */
+/* Appendix D (G 15597): which built ones are not repeatable. Answer 7. */
 static void repeatability(void)
 {
     static const char *const once[] = { "RPT", "ADDK", "ADRK", "LACK", "LARK",

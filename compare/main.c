@@ -23,7 +23,7 @@ static bool number_in(const char *text, uint64_t *number)
 static int compare_all(uint64_t cases, uint64_t seed)
 {
     if (!words_sort())
-        report_missing("the base's", "75 pages");
+        report_missing("built:", "75 pages");
     printf("seed %" PRIu64 "\n", seed);
     compare_empty();
     compare_words(seed);

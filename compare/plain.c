@@ -19,7 +19,7 @@ enum kind {
     NEG, OR, OUT, PAC, POP, PUSH, RET, ROVM, RPT, RPTK, RSXM, SACH, SACL, SAR,
     SBRK, SFL, SFR, SOVM, SPAC, SPH, SPL, SPM, SQRA, SQRS, SSXM, SUB, SUBC,
     SUBH, SUBK, SUBS, XOR, ZALH, ZALS,
-    OTHER /* published, not in the base */
+    OTHER /* published, not built */
 };
 
 /* What the low byte of the word is. */
@@ -47,7 +47,7 @@ struct row {
 
 /*
  * ZAC is LACK 0, NOP and LARP are MAR (D01), so they have no row. For the
- * instructions that are not in the base only mask, bits and field matter.
+ * instructions that are not built only mask, bits and field matter.
  */
 static const struct row rows[] = {
     { "ABS",  0xFFFF, 0xCE1B, ABS,  PLAIN,   NONE,   1, REPEATS }, /* G 2252 */

@@ -106,7 +106,7 @@ int plain_words_sent(const struct plain_machine *machine,
                      const uint16_t *output, size_t output_len,
                      const uint16_t **words, size_t *count);
 
-/* A word alone: 0 for a base instruction, else 3 or 4. */
+/* A word alone: 0 for a built instruction, else 3 or 4. */
 int plain_decode(uint16_t word);
 
 /* The name of a word's page, or "" for a word in no encoding. */

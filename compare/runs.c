@@ -62,7 +62,7 @@ static bool is_fertile(const struct plain_machine *m)
 /* An instruction that has a fair chance in this state, or mends it. */
 static uint16_t draw_fair_word(struct draw *d, const struct plain_machine *m)
 {
-    uint16_t word = draw_base_word(d);
+    uint16_t word = draw_built_word(d);
     if (!data_on_board(m->cnf, m->ar[m->arp]) && draw_percent(d, 30))
         return (uint16_t)(0xC060 | m->arp << 8 | draw_below(d, 32)); /* LARK */
     if (!is_fertile(m) && draw_percent(d, 20))
@@ -163,7 +163,7 @@ static void draw_memories(struct draw *d, struct world *w)
             ? (uint16_t)draw_data_address(d, 0)
             : draw_word(d);
     for (uint32_t i = 0; i < PLAIN_ROM_WORDS; i += 1 + draw_below(d, 8))
-        w->rom[i] = draw_percent(d, 50) ? draw_base_word(d) : draw_word(d);
+        w->rom[i] = draw_percent(d, 50) ? draw_built_word(d) : draw_word(d);
 }
 
 /* Registers that stay on the board for a while. */

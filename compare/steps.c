@@ -19,10 +19,10 @@ static const char *const absent_names[3] = {
 
 static uint64_t answers[ANSWERS];
 static uint64_t absent[3];
-static uint64_t done[BASE_PAGES];
-static uint64_t refused[BASE_PAGES];
+static uint64_t done[BUILT_PAGES];
+static uint64_t refused[BUILT_PAGES];
 static uint64_t modes[MODES];
-static uint64_t pairs[BASE_PAGES][MODES];
+static uint64_t pairs[BUILT_PAGES][MODES];
 
 static struct world world;
 
@@ -30,7 +30,7 @@ static uint16_t draw_instruction(struct draw *d)
 {
     uint32_t how = draw_below(d, 100);
     if (how < 90)
-        return draw_base_word(d);
+        return draw_built_word(d);
     return how < 96 ? draw_other_word(d) : (uint16_t)draw_bits(d);
 }
 
@@ -176,7 +176,7 @@ static void print_answers(void)
 static void print_pages(void)
 {
     printf("  by page, done + refused:");
-    for (int i = 0; i < BASE_PAGES; i++)
+    for (int i = 0; i < BUILT_PAGES; i++)
         printf("%s%-4s %7" PRIu64 " +%6" PRIu64, i % 4 == 0 ? "\n    " : "   ",
                page_name(i), done[i], refused[i]);
     printf("\n  by mode, done:");
@@ -185,7 +185,7 @@ static void print_pages(void)
                mode_name(i), modes[i]);
     int met = 0;
     int all = 0;
-    for (int i = 0; i < BASE_PAGES; i++)
+    for (int i = 0; i < BUILT_PAGES; i++)
         for (int j = 0; j < MODES; j++) {
             all += page_has_mode(i, j);
             met += pairs[i][j] != 0;
@@ -205,7 +205,7 @@ static void find_missing(void)
     for (int i = 0; i < 3; i++)
         if (absent[i] == 0)
             report_missing("answer 5 for the", absent_names[i]);
-    for (int i = 0; i < BASE_PAGES; i++)
+    for (int i = 0; i < BUILT_PAGES; i++)
         if (done[i] == 0)
             report_missing("page", page_name(i));
     for (int i = 0; i < MODES; i++)
@@ -223,7 +223,7 @@ void compare_words(uint64_t seed)
         other += answer == PLAIN_NOT_IN_BASE;
         nothing += answer == PLAIN_NO_ENCODING;
     }
-    printf("every word once: base %" PRIu32 ", answer 4: %" PRIu32
+    printf("every word once: built %" PRIu32 ", answer 4: %" PRIu32
            ", answer 3: %" PRIu32 "\n",
            0x10000 - other - nothing, other, nothing);
     if (other != 9097 || nothing != 9298)

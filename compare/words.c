@@ -6,15 +6,15 @@
 
 enum { WORDS = 65536 };
 
-static const char *names[BASE_PAGES];
+static const char *names[BUILT_PAGES];
 static int pages;
 static int8_t page_at[WORDS];
 static int8_t mode_at[WORDS];
-static bool has_mode[BASE_PAGES][MODES];
+static bool has_mode[BUILT_PAGES][MODES];
 
 /* The words page after page; a page's stand from first[page] on. */
-static uint16_t base_words[WORDS];
-static uint32_t first[BASE_PAGES + 1];
+static uint16_t built_words[WORDS];
+static uint32_t first[BUILT_PAGES + 1];
 static uint16_t other_words[2][WORDS]; /* answers 3 and 4 */
 static uint32_t other_count[2];
 
@@ -35,7 +35,7 @@ static int find_page(const char *name)
     for (int i = 0; i < pages; i++)
         if (strcmp(names[i], name) == 0)
             return i;
-    if (pages == BASE_PAGES)
+    if (pages == BUILT_PAGES)
         return -1;
     names[pages] = name;
     return pages++;
@@ -71,10 +71,10 @@ bool words_sort(void)
         first[page] = count;
         for (uint32_t word = 0; word < WORDS; word++)
             if (page_at[word] == page)
-                base_words[count++] = (uint16_t)word;
+                built_words[count++] = (uint16_t)word;
     }
     first[pages] = count;
-    return good && pages == BASE_PAGES;
+    return good && pages == BUILT_PAGES;
 }
 
 const char *page_name(int page)
@@ -107,11 +107,11 @@ bool page_has_mode(int page, int mode)
     return has_mode[page][mode];
 }
 
-uint16_t draw_base_word(struct draw *d)
+uint16_t draw_built_word(struct draw *d)
 {
-    uint32_t page = draw_below(d, BASE_PAGES);
+    uint32_t page = draw_below(d, BUILT_PAGES);
     uint32_t count = first[page + 1] - first[page];
-    uint16_t word = base_words[first[page] + draw_below(d, count)];
+    uint16_t word = built_words[first[page] + draw_below(d, count)];
     if (draw_percent(d, 8))
         return word;
     if ((word & 0xF000) == 0x8000) /* IN, port 0 */
