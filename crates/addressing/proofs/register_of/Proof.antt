@@ -1,3 +1,4 @@
+-- Not routine: there are eight registers, and past the end of the list the definition reads 0 too.
 use native.Mathlib.Omega.{arith}
 use mathlib.Core.Path.{_≡_, sym}
 use lib.ListN.{length, List·getD-eq-default}

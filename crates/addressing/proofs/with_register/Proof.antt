@@ -1,3 +1,4 @@
+-- Not routine: the eight words, each chosen by a test of its own, are the list with the word set at place i, also where i is above 7.
 use mathlib.Core.Path.{_≡_, ap}
 use mathlib.Core.List.{List}
 use Prim.Native.Nat.{ℕ}

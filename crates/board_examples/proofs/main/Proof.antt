@@ -1,3 +1,4 @@
+-- Not routine: the loop ends because left falls by one each time; that left is at most 100 is all that it keeps.
 use borrow.Author.Needs.{needs}
 use Prim.Native.Nat.{_≤_}
 use Rattle.board_examples.proofs.main.Statement.{statement}

@@ -1,3 +1,4 @@
+-- Not routine: the count is at most the length of the whole, so that the slice up to it is as long as the count.
 use mathlib.Core.Path.{sym}
 use lib.Seq.{length-take-le}
 use borrow.Author.Needs.{needs}

@@ -1,3 +1,4 @@
+-- Not routine: answer 0 means that the three counts are within a file's limits, so that file_bytes may be asked; its sum is the file's length.
 use Rattle.c_file_writing.specs.CallLaws.{none-written, counts-written, bytes-written}
 use Rattle.answers.specs.NumberLaws.{told}
 use borrow.Author.Tests.{not-true, not-false}

@@ -1,3 +1,4 @@
+-- Not routine: the loop ends because 256 - upper falls each time; it keeps nothing of the counts, whose additions wrap.
 use borrow.Author.Needs.{needs}
 use Prim.Native.Nat.{_≤_, _-_}
 use Rattle.decode_counts.proofs.main.Statement.{statement}

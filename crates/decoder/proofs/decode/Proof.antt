@@ -1,3 +1,4 @@
+-- Not routine: a law, computed over every upper byte, says that the table of kinds leads to the same page as the list of pages.
 use Rattle.decoder.specs.TableLaws.{decode-by-kinds}
 use borrow.Author.Needs.{needs}
 use Rattle.decoder.proofs.decode.Statement.{statement}

@@ -1,3 +1,4 @@
+-- Not routine: each arm knows only the two ends of its range; that the definition says the same of every byte between them is computed.
 use mathlib.Core.Bool.{true, false}
 use native.Mathlib.Omega.{arith}
 use borrow.Author.Needs.{needs}

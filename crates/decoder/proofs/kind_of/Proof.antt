@@ -1,3 +1,4 @@
+-- Not routine: past the end of the list the definition reads 0 too.
 use mathlib.Core.Path.{sym}
 use lib.ListN.{List·getD-eq-default}
 use borrow.Author.Needs.{needs}

@@ -1,3 +1,4 @@
+-- Not routine: once checks 1 and 2 are passed, the plan made from the fetch on is the step's whole plan, and its store lies in the data slice.
 use Rattle.steps.specs.Step.{stepOf, afterStore}
 use Rattle.emulator.specs.RunLaws.{words-fit, table-plan, table-fits}
 use borrow.Author.Needs.{needs}

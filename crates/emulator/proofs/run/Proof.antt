@@ -1,3 +1,4 @@
+-- Not routine: what the loop keeps is that the steps done and the run still to come make up the whole run, and that checks 1 and 2 still hold.
 use mathlib.Core.Path.{sym, ap, _∙_}
 use Prim.Native.Nat.{_-_}
 use native.Mathlib.Omega.{arith}

@@ -1,3 +1,4 @@
+-- Not routine: a run with budget 1 ends with checks 1 and 2 of the world after the step, and those hold, so that its answer is the step's.
 use mathlib.Core.Path.{ap, _∙_}
 use borrow.Author.Needs.{needs}
 use Rattle.answers.specs.NumberLaws.{done-is}

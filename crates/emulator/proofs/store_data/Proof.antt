@@ -1,3 +1,4 @@
+-- Not routine: 128 times the page plus the offset is the address again, so that the store through the data page is the one at the address.
 use mathlib.Core.Path.{_∙_}
 use Rattle.board.specs.SliceLaws.{address-set}
 use borrow.Author.Needs.{needs}

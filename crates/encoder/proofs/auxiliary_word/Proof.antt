@@ -1,3 +1,4 @@
+-- Not routine: the definition makes the word bit by bit as its page prints it; a law says that a field's bits are the sum that the code makes.
 use mathlib.Core.Path.{sym, _∙_}
 use Rattle.encodings.specs.Encode.{wordOf, auxiliaryFields}
 use Rattle.encodings.specs.Bits.{field-after}

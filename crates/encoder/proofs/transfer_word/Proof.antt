@@ -1,3 +1,4 @@
+-- Not routine: the definition makes the word bit by bit as its page prints it; a law says that a field's bits are the sum that the code makes.
 use Rattle.encodings.specs.Encode.{wordOf, transferFields}
 use Rattle.encoder.specs.EncodeLaws.{by-case, of-address, of-shifted}
 use borrow.Author.Needs.{needs}

@@ -1,3 +1,4 @@
+-- Not routine: the bytes begin with the whole line, so that its length is at most theirs and the slice up to it is as long as the count.
 use Rattle.replaying.specs.ReplayLaws.{put-counts}
 use borrow.Author.Needs.{needs}
 use Rattle.examples.proofs.print_replay.Statement.{statement}

@@ -1,3 +1,4 @@
+-- Not routine: the loop ends because lines_left gives less than was left; that left is at most 1,000 is all that it keeps.
 use borrow.Author.Needs.{needs}
 use Prim.Native.Nat.{_≤_}
 use Rattle.guide_examples.proofs.case.Statement.{statement}

@@ -1,3 +1,4 @@
+-- Not routine: the loop ends because i grows to the number of digits; it keeps nothing of n, which is cut to 28 bits before it is multiplied by 16.
 use borrow.Author.Needs.{needs}
 use Prim.Native.Nat.{_≤_, _-_}
 use lib.ListN.{length}

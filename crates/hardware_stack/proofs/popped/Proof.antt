@@ -1,3 +1,4 @@
+-- Not routine: a list of eight words is its eight elements, so that the code's single reads make the definition's part of the list.
 use Rattle.hardware_stack.proofs.Moves.{pops}
 use borrow.Author.Needs.{needs}
 use Rattle.hardware_stack.proofs.popped.Statement.{statement}

@@ -1,3 +1,4 @@
+-- Not routine: the definition parts the fields by spaces, the code puts each after the first behind its space; a law says that the bytes are the same.
 use Rattle.line.specs.LineLaws.{line-of}
 use borrow.Author.Needs.{needs}
 use Rattle.line.proofs.run_line.Statement.{statement}

@@ -1,3 +1,4 @@
+-- Not routine: what the loop keeps is that places and the digits of rest are one more than the digits of n, and that rest + places is at most n + 1, so that places cannot overflow.
 use Rattle.line_digits.specs.DigitLaws.{counted-none, counted-more, counted-all}
 use Rattle.line_digits.specs.DigitLaws.{DigitsCounted}
 use native.Mathlib.Omega.{arith}

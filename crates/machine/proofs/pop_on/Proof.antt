@@ -1,4 +1,4 @@
--- `machine::pop_on` meets its contract: a walk of its MIR, by hand. The machine is copied to a local, the cell of its stack is after out of the local's cell and lent to `pop` for a lifetime that is made for the call, and comes back at the value that `pop` left.
+-- `machine::pop_on` meets its contract: a walk of its MIR, by hand. The machine is copied to a local, the cell of its stack is taken out of the local's cell and lent to `pop` for a lifetime that is made for the call, and comes back at the value that `pop` left.
 -- All that the proof knows of `pop` is that it meets its contract.
 use mathlib.Core.Path.{_≡_, refl, ap}
 use Prim.Native.Nat.{ℕ, _<_, _^_}
@@ -115,7 +115,7 @@ module _ {M : Type 1} (𝓤 : URA M) (H : Heap 𝓤) (A : Atoms 𝓤) (W : Given
         -- [_5; …; _4; …; _3; …; _2; …; _1; …; _0; …; true; what the parameter owns]
         assigns ! (of-opd ! (load ! (from ! (stop !)) (look ! 8 refl))) (from ! (stop !)) (init ! 6 refl wt) $
         assigns ! (addr ! (from ! (fld ! refl (stop !)))) (from ! (stop !)) (init ! 2 refl (tt, tt)) $
-        -- the stack's cell is after out of the local's, and lent for a lifetime ν of the call
+        -- the stack's cell is taken out of the local's, and lent for a lifetime ν of the call
         move ! (6 ∷ []) $ use1 W (‵ (fat fullShare S′.mir l₂ d (only (stackVals (m .stack)))) ⊛ raw (all 𝓤 (Field l₂))) (sub {K = Unit {0}} {W = W} tt 0 refl (whole tt) .out) $ split ! $
         use1 W (‵ (cellAt fullShare (S.the-row .mir) (stackVals (m .stack)) l₂ d)) (W .laws .at-raw fullShare S′.mir l₂ d (only (stackVals (m .stack)))) $
         owned ! (S.the-row) (Is (S.the-row)) ((LL.makes S.the-type S′.the-plain) 𝓤 H A) (m .stack) _ (stack-was m was) $ move ! (1 ∷ 0 ∷ []) $

@@ -1,3 +1,4 @@
+-- Not routine: the last arm is told only that the place is none of those above; it lies in 0 to 22, so it is 22.
 use mathlib.Core.Path.{ap, sym, refl}
 use Prim.Native.Nat.{ℕ, _/_, _%_}
 use Rattle.operands.specs.declared.Address.{Address}

@@ -1,3 +1,4 @@
+-- Not routine: the last arm is told only that the place is none of those above; it lies in 42 to 49, so it is 49.
 use mathlib.Core.Path.{ap, sym}
 use Prim.Native.Nat.{ℕ, _/_, _%_}
 use Rattle.operands.specs.declared.Address.{Address}

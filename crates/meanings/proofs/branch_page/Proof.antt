@@ -1,3 +1,4 @@
+-- Not routine: the last arm is told only that the place is none of those above; it lies in 50 to 61, so it is 61.
 use mathlib.Core.Path.{ap, refl}
 use Rattle.operands.specs.declared.Indirect.{Indirect}
 use Rattle.instructions.specs.declared.Branches.the-variants.{B, Banz, Bz, Bnz, Bgz, Bgez, Blz, Blez, Bv, Bnv, Call}

@@ -1,3 +1,4 @@
+-- Not routine: a place from 75 on means Unbuilt unless its page is among the built ones; that list is still empty, so there is nothing to rule out.
 use Rattle.instructions.specs.Past.{laterBuilt}
 use Rattle.meanings.proofs.Later.{none-later}
 use Rattle.meanings.proofs.later_page.Statement.{statement}

@@ -1,3 +1,4 @@
+-- Not routine: the list has 133 pages, and a place past its end means Nothing, whatever the word.
 use mathlib.Core.Path.{sym}
 use Rattle.instructions.specs.Past.{past-pages}
 use borrow.Author.Needs.{needs}

@@ -1,3 +1,4 @@
+-- Not routine: the last arm is told only that the place is none of those above; it lies in 65 to 74, so it is 74.
 use mathlib.Core.Path.{ap, sym, refl}
 use Prim.Native.Nat.{ℕ, _%_}
 use Rattle.operands.specs.declared.Address.{Address}

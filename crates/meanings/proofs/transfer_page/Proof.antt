@@ -1,3 +1,4 @@
+-- Not routine: the last arm is told only that the place is none of those above; it lies in 62 to 64, so it is 64.
 use Prim.Native.Nat.{_/_, _%_}
 use mathlib.Core.Path.{ap}
 use Rattle.operands.specs.declared.Address.{Address}

@@ -1,3 +1,4 @@
+-- Not routine: a repeat is pending only where RPTC is above 0, so that RPTC less 1 does not go below 0.
 use native.Mathlib.Omega.{arith}
 use Rattle.pages.specs.Passes.{followed, destination}
 use Rattle.passes.specs.PassLaws.{pending}

@@ -1,3 +1,4 @@
+-- Not routine: no row of the table has Done as its answer, so that the first answer is Done just where no row holds.
 use Rattle.steps.specs.RefusalLaws.{pass-plan}
 use borrow.Author.Needs.{needs}
 use Rattle.plans.proofs.plan_pass.Statement.{statement}

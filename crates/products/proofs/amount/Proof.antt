@@ -1,3 +1,4 @@
+-- Not routine: the last arm is told only that PM is none of those above; from 3 on every PM has the amount 0.
 use mathlib.Core.Path.{sym, ap}
 use Rattle.products.specs.Scaling.{amountOf}
 use Rattle.products.specs.ProductLaws.{amount-last}

@@ -1,3 +1,4 @@
+-- Not routine: adding 57,344 (E000h) where bit 12 is set fills bits 15 to 13 with the sign.
 use Rattle.products.specs.ProductLaws.{constant-is}
 use borrow.Author.Needs.{needs}
 use Rattle.products.proofs.long_constant.Statement.{statement}

@@ -1,3 +1,4 @@
+-- Not routine: each factor is the signed number but for a multiple of 2^32, and so is the product; two factors of 32 bits fit in 64.
 use mathlib.Core.Path.{_∙_, ap₂}
 use Prim.Native.Nat.{ℕ, _*_, _%_, _^_}
 use native.Mathlib.Omega.{arith}

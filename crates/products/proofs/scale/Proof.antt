@@ -1,3 +1,4 @@
+-- Not routine: 64 bits are enough: what the left shift loses and the right shift fills in lies above the 32 bits that are kept.
 use Rattle.products.specs.ProductLaws.{scale-law}
 use borrow.Author.Needs.{needs}
 use Rattle.products.proofs.scale.Statement.{statement}

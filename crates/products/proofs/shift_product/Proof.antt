@@ -1,3 +1,4 @@
+-- Not routine: 6 places too many to the left, cut back by 6, lose nothing, so that one shift serves every PM; the amount is at most 10.
 use mathlib.Core.Path.{_∙_}
 use native.Mathlib.Omega.{arith}
 use Rattle.products.specs.ProductLaws.{amount-le, scaled-is}

@@ -1,3 +1,4 @@
+-- Not routine: an address above 65,535 is absent, so that only a 16-bit address has to be looked up.
 use mathlib.Core.Path.{sym}
 use native.Mathlib.Omega.{arith}
 use Rattle.regions.specs.AbsentLaws.{absent-above}

@@ -1,3 +1,4 @@
+-- Not routine: the code leaves out the definition's upper bound, FFFFh, since no 16-bit address is above it.
 use mathlib.Core.Bool.{and-true}
 use native.Mathlib.Omega.{arith}
 use borrow.Author.Tests.{le-leb}

@@ -1,3 +1,4 @@
+-- Not routine: what the loop keeps is that r moved up by the places left, plus the bits of v reversed, is the result; so r always fits in 16 bits.
 use borrow.Author.Needs.{needs}
 use native.Mathlib.Omega.{arith}
 use Rattle.alu.specs.RegisterLaws.{Turned, turns-on, turned-over}

@@ -1,3 +1,4 @@
+-- Not routine: the library promises only that the result plus `b` is `a` modulo 65,536, which is so for just one 16-bit number.
 use native.Mathlib.Omega.{arith}
 use Rattle.alu.specs.RegisterLaws.{difference-is}
 use borrow.Author.Needs.{needs}

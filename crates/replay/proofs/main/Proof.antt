@@ -1,3 +1,4 @@
+-- Not routine: the bytes begin with the whole line, so that its length is at most theirs and `[..end]` stays inside.
 use Rattle.replaying.specs.ReplayLaws.{put-counts}
 use borrow.Author.Needs.{needs}
 use Rattle.replay.proofs.main.Statement.{statement}

@@ -1,3 +1,4 @@
+-- Not routine: a file of bytes has no line longer than `longestLine`, which the lent bytes hold, so that the line stands whole.
 use Rattle.replaying.specs.ReplayLaws.{placed-as, placed-whole, refused-replay}
 use Rattle.answers.specs.NumberLaws.{told}
 use native.Mathlib.Omega.{arith}

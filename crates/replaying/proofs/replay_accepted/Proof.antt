@@ -1,3 +1,4 @@
+-- Not routine: an accepted file has at most 1,024 input words, so that `input[..count]` lies in the array and is as long as the file asks.
 use Rattle.replaying.specs.ReplayLaws.{input-most, budget-read, fresh}
 use mathlib.Core.Path.{refl, sym}
 use Prim.Native.Nat.{ℕ}

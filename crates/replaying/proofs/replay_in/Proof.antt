@@ -1,3 +1,4 @@
+-- Not routine: the answer of `set_up` is not looked at: slices of these sizes fit an accepted file, so that it cannot refuse.
 use Rattle.replaying.specs.ReplayLaws.{placed-as, run-replay}
 use borrow.Author.Needs.{needs}
 use Rattle.replaying.proofs.replay_in.Statement.{statement}

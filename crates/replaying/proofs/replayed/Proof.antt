@@ -1,3 +1,4 @@
+-- Not routine: the array has 16,401 bytes, so that from a count of 16,401 on the first `count` bytes are all of them.
 use mathlib.Core.Path.{sym}
 use lib.Seq.{take-all, length-take-le}
 use native.Mathlib.Omega.{arith}

@@ -1,3 +1,4 @@
+-- Not routine: what the loop keeps is that the words before the address are 0 and those from it on are as they were.
 use Rattle.runfile_setting_up.proofs.Loops.{Cleared, cleared-none, cleared-more, cleared-all}
 use borrow.Author.Needs.{needs}
 use native.Mathlib.Omega.{arith}

@@ -1,3 +1,4 @@
+-- Not routine: a run of words stored inside 4,096 zeros is zeros before it, the words, and zeros after it, as the definition has it.
 use Rattle.runfile_setting_up.specs.MemoryLaws.{memory-filled}
 use borrow.Author.Needs.{needs}
 use Rattle.runfile_setting_up.proofs.fill_memory.Statement.{statement}

@@ -1,3 +1,4 @@
+-- Not routine: an accepted file's sections lie end to end up to its end, and 3,072 words from 0400h on end with the memory, so that every load fits.
 use Rattle.runfile_setting_up.specs.SetUpLaws.{sections-stored}
 use native.Mathlib.Omega.{arith}
 use borrow.Author.Needs.{needs}

@@ -1,3 +1,4 @@
+-- Not routine: what the loop keeps is that the first k words of the run are stored and nothing else has changed, the length included.
 use Rattle.runfile_setting_up.proofs.Loops.{Loaded, loaded-none, loaded-length, loaded-more, loaded-all}
 use borrow.Author.Needs.{needs}
 use native.Mathlib.Omega.{arith}

@@ -1,3 +1,4 @@
+-- Not routine: Done as the answer means that the file is accepted and the slices fit it, which is all that loading asks.
 use Rattle.answers.specs.NumberLaws.{told}
 use Rattle.runfile_setting_up.specs.SetUpLaws.{set-up-done, set-up-kept, set-up-stored}
 use mathlib.Core.Path.{refl}

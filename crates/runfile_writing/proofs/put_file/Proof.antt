@@ -1,3 +1,4 @@
+-- Not routine: each part starts where the one before ends, so that the four stores together are the file as one run of bytes.
 use Rattle.runfile_writing.specs.WritingLaws.{file-put}
 use native.Mathlib.Omega.{arith}
 use Rattle.runfile.specs.Files.{fileLength, headWords}

@@ -1,3 +1,4 @@
+-- Not routine: a store at a place and one at the next are together the store of the two bytes as a run.
 use Rattle.runfile.specs.Files.{bytesOf}
 use Rattle.runfile_writing.specs.WritingLaws.{word-put}
 use borrow.Author.Needs.{needs}

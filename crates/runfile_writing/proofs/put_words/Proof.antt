@@ -1,3 +1,4 @@
+-- Not routine: what the loop keeps is that the bytes of the first k words are stored and nothing else has changed, the length included.
 use Rattle.runfile_writing.proofs.Loops.{Put, put-none, put-length, put-more, put-all}
 use borrow.Author.Needs.{needs}
 use native.Mathlib.Omega.{arith}

@@ -1,3 +1,4 @@
+-- Not routine: the file's length follows from its three counts, so that the room is known before a byte is put down.
 use native.Mathlib.Omega.{arith}
 use Rattle.runfile.specs.FileLaws.{counts-kept, file-length}
 use Rattle.runfile_writing.specs.WritingLaws.{write-no-room, write-done}

@@ -1,3 +1,4 @@
+-- Not routine: doubling without the top bit is doubling modulo 2^32.
 use Rattle.shifts.specs.ShiftLaws.{left-is}
 use borrow.Author.Needs.{needs}
 use Rattle.shifts.proofs.left_by_one.Statement.{statement}

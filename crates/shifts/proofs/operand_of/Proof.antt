@@ -1,3 +1,4 @@
+-- Not routine: the 32-bit word and the signed number differ by a multiple of 2^32, and so do their shifts, so that the low 32 bits agree.
 use mathlib.Core.Path.{_∙_}
 use native.Mathlib.Omega.{arith}
 use Rattle.shifts.specs.ShiftLaws.{operand-signed, operand-plain}

@@ -1,3 +1,4 @@
+-- Not routine: half the word, with the top bit put in again where it is set, is the signed number shifted right with its sign.
 use native.Mathlib.Omega.{arith}
 use Rattle.shifts.specs.ShiftLaws.{right-signed, right-plain}
 use borrow.Author.Needs.{needs}

@@ -1,3 +1,4 @@
+-- Not routine: shifted by 32 places or more the number is a multiple of 2^32, so that its low 32 bits are 0.
 use mathlib.Core.Path.{sym}
 use native.Mathlib.Omega.{arith}
 use Rattle.shifts.specs.ShiftLaws.{all-lost}

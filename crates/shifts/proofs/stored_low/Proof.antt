@@ -1,3 +1,4 @@
+-- Not routine: cutting the shifted number to 32 bits first does not change its low 16.
 use mathlib.Core.Path.{_∙_}
 use Rattle.shifts.specs.ShiftLaws.{low-of-shifted}
 use borrow.Author.Needs.{needs}

@@ -1,3 +1,4 @@
+-- Not routine: bounds cut down to the slice give the same part as those asked for, and it begins where the definition says.
 use Rattle.board.specs.SliceLaws.{part-shown, part-begins}
 use borrow.Author.Needs.{needs}
 use Rattle.slices.proofs.part.Statement.{statement}

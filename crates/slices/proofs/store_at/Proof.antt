@@ -1,3 +1,4 @@
+-- Not routine: past the end of the slice the definition's store changes nothing.
 use mathlib.Core.Path.{sym}
 use native.Mathlib.Omega.{arith}
 use lib.Seq.{set-out}

@@ -1,3 +1,4 @@
+-- Not routine: the page comes back between the words before it and those after it, which is how the definition puts the slice together.
 use mathlib.Core.Path.{sym}
 use native.Mathlib.Omega.{arith}
 use Rattle.board.specs.SliceLaws.{data-page-put, data-page-missing}

@@ -1,3 +1,4 @@
+-- Not routine: from an address above 65,535 nothing is moved, so that only a 16-bit address has to be looked up.
 use mathlib.Core.Path.{sym}
 use native.Mathlib.Omega.{arith}
 use Rattle.regions.specs.AbsentLaws.{unmoved-above}

@@ -1,3 +1,4 @@
+-- Not routine: a word is moved only where the next address is on chip, below 1,024, so that the address plus 1 does not overflow.
 use mathlib.Core.Path.{sym, _∙_}
 use native.Mathlib.Omega.{arith}
 use Rattle.steps.specs.Stores.{writeOf}

@@ -1,3 +1,4 @@
+-- Not routine: below 2^31 the word is its own absolute value and cannot overflow; from there on its absolute value is its negation.
 use native.Mathlib.Omega.{arith}
 use Rattle.sums.specs.PageSumLaws.{absolute-same, absolute-negated}
 use borrow.Author.Needs.{needs}

@@ -1,3 +1,4 @@
+-- Not routine: a set sign bit is worth 2^32 less, so that acc + x less 2^32 for each sign bit is the exact signed sum.
 use mathlib.Core.Path.{_∙_}
 use Rattle.alu.specs.Sums.{added, carry}
 use Rattle.sums.specs.SumLaws.{add-settled}

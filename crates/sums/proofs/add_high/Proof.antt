@@ -1,3 +1,4 @@
+-- Not routine: the page's sum differs from the plain one in C alone, which has no part in ACC or OV.
 use Rattle.sums.specs.PageSumLaws.{add-high-sets, add-high-keeps}
 use borrow.Author.Needs.{needs}
 use Rattle.sums.proofs.add_high.Statement.{statement}

@@ -1,3 +1,4 @@
+-- Not routine: 0 less ACC borrows unless ACC is 0, which is the page's rule for C.
 use mathlib.Core.Path.{_∙_}
 use Rattle.sums.specs.PageSumLaws.{negated-is}
 use borrow.Author.Needs.{needs}

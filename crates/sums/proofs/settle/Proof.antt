@@ -1,3 +1,4 @@
+-- Not routine: the two tests say whether m less base leaves the signed 32 bits; base is a multiple of 2^32, so that the low word is that of m.
 use mathlib.Core.Path.{refl}
 use Rattle.sums.specs.SumLaws.{settles}
 use borrow.Author.Needs.{needs}

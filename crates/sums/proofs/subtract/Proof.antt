@@ -1,3 +1,4 @@
+-- Not routine: with 2^32 added the difference never goes below 0, and the bit above the 32 is then 1 just where nothing is borrowed.
 use mathlib.Core.Path.{_∙_}
 use native.Mathlib.Omega.{arith}
 use Rattle.sums.specs.SumLaws.{subtract-settled}

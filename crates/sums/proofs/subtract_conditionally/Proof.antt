@@ -1,3 +1,4 @@
+-- Not routine: with OVM 0 nothing is held, so that the difference is the ALU's output; doubling without the top bit is doubling modulo 2^32.
 use Rattle.sums.specs.PageSumLaws.{conditionally-taken, conditionally-left}
 use borrow.Author.Needs.{needs}
 use Rattle.sums.proofs.subtract_conditionally.Statement.{statement}

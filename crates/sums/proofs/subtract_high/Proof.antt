@@ -1,3 +1,4 @@
+-- Not routine: the page's difference differs from the plain one in C alone, which has no part in ACC or OV.
 use Rattle.sums.specs.PageSumLaws.{subtract-high-resets, subtract-high-keeps}
 use borrow.Author.Needs.{needs}
 use Rattle.sums.proofs.subtract_high.Statement.{statement}

@@ -1,3 +1,4 @@
+-- Not routine: where B0 answers the address is FF00h or above, so that taking off FF00h does not go below 0.
 use mathlib.Core.Path.{sym, _∙_}
 use Rattle.board.specs.Windows.{windowOf, windowStart}
 use Rattle.board.specs.RegionLaws.{program-b0}

@@ -1,3 +1,4 @@
+-- Not routine: Done as the answer means that the cursor is not past the slice, so that the part up to it has as many words as the cursor says.
 use mathlib.Core.Path.{refl, sym, ap, _∙_}
 use Rattle.answers.specs.Numbers.{isDone}
 use lib.Seq.{length-take-le}

@@ -1,3 +1,4 @@
+-- Not routine: what the loop keeps is that kept says whether the first i cells are within their limits.
 use Rattle.machine.specs.Table.{cellCount}
 use Rattle.c_cells.proofs.CheckLoops.{Kept, kept-more, kept-all}
 use Rattle.c_cells.specs.Checks.{limits, withinLimits}

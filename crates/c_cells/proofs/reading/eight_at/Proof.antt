@@ -1,3 +1,4 @@
+-- Not routine: the definition goes from place to place, the code adds 1 to 7 to the first; a law says that the eight reads are the same.
 use Rattle.c_cells.specs.ReadLaws.{eight-read}
 use borrow.Author.Needs.{needs}
 use Rattle.c_cells.proofs.reading.eight_at.Statement.{statement}

@@ -1,3 +1,4 @@
+-- Not routine: the five parts, each stored where the one before it ended, fill the slice, so that nothing of what it held is left.
 use mathlib.Core.Path.{refl}
 use Rattle.c_cells.specs.Cells.{cellsOf}
 use Rattle.c_cells.specs.StoreLaws.{parts-put}

@@ -1,3 +1,4 @@
+-- Not routine: what the loop keeps is that the first k numbers of the run are stored; so the slice has its old length, and at + k is in it.
 use Rattle.c_cells.proofs.StoreLoops.{Put, put-none, put-length, put-more, put-whole}
 use Prim.Native.Nat.{_-_}
 use lib.ListN.{length}

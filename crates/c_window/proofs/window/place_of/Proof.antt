@@ -1,3 +1,4 @@
+-- Not routine: an address that is present and not in ROM is in B0, from FF00h on, so that the subtraction cannot go below 0.
 use Rattle.c_window.specs.CallLaws.{no-place, past-rom, rom-place, data-place}
 use Rattle.answers.specs.NumberLaws.{told}
 use borrow.Author.Tests.{not-true, not-false}

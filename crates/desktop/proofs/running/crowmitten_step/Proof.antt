@@ -1,3 +1,4 @@
+-- Not routine: cells that pass the checks are of the right number, so that storing the machine replaces them all.
 use Rattle.board.specs.Given.{given}
 use Rattle.desktop.specs.CallLaws.{step-refused, step-made}
 use borrow.Author.Tests.{not-true, not-false}

@@ -1,3 +1,4 @@
+-- Not routine: the modification's bits are below 8 and the next ARP's below 16, so that the sum fits a byte.
 use borrow.Author.Needs.{needs}
 use native.Mathlib.Omega.{arith}
 use Rattle.encodings.specs.Encode.{indirectBits}

@@ -1,3 +1,4 @@
+-- Not routine: a number n has at most n + 1 decimal digits, so that the sum of three such lengths cannot overflow 64 bits.
 use Rattle.line_digits.specs.DigitLaws.{decimal-most}
 use native.Mathlib.Omega.{arith}
 use borrow.Author.Needs.{needs}

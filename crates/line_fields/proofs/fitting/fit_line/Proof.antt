@@ -1,3 +1,4 @@
+-- Not routine: with five bytes for each word, the two tests together are the definition's one: whether the whole line fits.
 use Rattle.line_fields.specs.PlacingLaws.{words-spill, cells-spill, line-room, line-put}
 use borrow.Author.Needs.{needs}
 use Rattle.line_fields.proofs.fitting.fit_line.Statement.{statement}

@@ -1,3 +1,4 @@
+-- Not routine: a number n has at most n + 1 decimal digits, so that the length with the byte that ends the line cannot overflow.
 use native.Mathlib.Omega.{arith}
 use Rattle.line_digits.specs.DigitLaws.{decimal-most}
 use Rattle.line_fields.specs.PlacingLaws.{number-length, line-kept, line-done, put-then}

@@ -1,3 +1,4 @@
+-- Not routine: room for the whole is room for each part where the one before it ended, and the parts put down in turn make the whole.
 use Rattle.line_fields.proofs.Cells.{cells-room, sent-room, newline-room, whole-put}
 use borrow.Author.Needs.{needs}
 use Rattle.line_fields.proofs.fitting.put_line.Statement.{statement}

@@ -1,3 +1,4 @@
+-- Not routine: the recursion ends because n / 10 is less than n from 10 on; the digits of n are those of n / 10 and one more.
 use mathlib.Core.Path.{_∙_}
 use native.Mathlib.Omega.{arith}
 use Rattle.line_fields.specs.PlacingLaws.{put-length, one-room, one-put, more-room, last-room, last-put}

@@ -1,3 +1,4 @@
+-- Not routine: the text of four digits has four bytes, so that there is room for each byte where the one before it ended.
 use Rattle.line_fields.specs.PlacingLaws.{put-length, four-put}
 use Rattle.line_digits.specs.DigitLaws.{hexadecimal-length}
 use native.Mathlib.Omega.{arith}

@@ -1,3 +1,4 @@
+-- Not routine: room for the whole is room for each part where the one before it ended, and the parts put down in turn make the whole.
 use Rattle.line_fields.proofs.Cells.{answer-room, steps-room, pc-room, acc-room, ov-room, cells-put}
 use borrow.Author.Needs.{needs}
 use Rattle.line_fields.proofs.parts.put_cells.Statement.{statement}

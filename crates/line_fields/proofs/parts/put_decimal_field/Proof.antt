@@ -1,3 +1,4 @@
+-- Not routine: a text put down where another ended makes one text with it, so that the space and the digits are one field.
 use Rattle.line_fields.specs.PlacingLaws.{put-then}
 use borrow.Author.Needs.{needs}
 use Rattle.line_fields.proofs.parts.put_decimal_field.Statement.{statement}

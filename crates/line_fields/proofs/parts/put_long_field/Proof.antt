@@ -1,3 +1,4 @@
+-- Not routine: eight hexadecimal digits are the four of n / 65,536 and the last four, which put_four takes from n itself.
 use Rattle.line_fields.specs.PlacingLaws.{put-then, room-first, room-then}
 use Rattle.line_digits.specs.DigitLaws.{eight-digits}
 use Rattle.line_digits.specs.Digits.{hexadecimal}

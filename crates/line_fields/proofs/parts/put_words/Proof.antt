@@ -1,3 +1,4 @@
+-- Not routine: what the loop keeps is that the first k words stand as fields; each takes 5 bytes, so that room for all leaves room for the next.
 use Rattle.line_fields.specs.PlacingLaws.{words-none, words-more, words-all, words-room, put-length}
 use Rattle.line_fields.specs.Facts.{WordsPut}
 use borrow.Author.Needs.{needs}

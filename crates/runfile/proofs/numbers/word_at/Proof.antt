@@ -1,3 +1,4 @@
+-- Not routine: where the first byte is past the end so is the second, and each counts as 0, so that one test is enough for both.
 use Prim.Native.Nat.{_+_}
 use native.Mathlib.Omega.{arith}
 use lib.ListN.{List·getD-eq-default}

@@ -1,3 +1,4 @@
+-- Not routine: each section is read with as many words as its count in the head says, so that the eight numbers alone give the lengths.
 use Rattle.runfile.specs.FileLaws.{head-read, head-refused}
 use Rattle.answers.specs.NumberLaws.{told}
 use mathlib.Core.Path.{sym}

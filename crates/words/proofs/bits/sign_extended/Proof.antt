@@ -1,3 +1,4 @@
+-- Not routine: FFFF0000h is 2^32 less 65,536, so that adding it for the sign bit gives the signed number modulo 2^32.
 use native.Mathlib.Omega.{arith}
 use Rattle.alu.specs.WordLaws.{sign-extends}
 use borrow.Author.Needs.{needs}

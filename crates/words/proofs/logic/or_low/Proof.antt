@@ -1,3 +1,4 @@
+-- Not routine: `|` of two 16-bit words is what the definition makes of them bit by bit, in 16 steps.
 use mathlib.Core.Path.{_∙_}
 use native.Mathlib.Omega.{arith}
 use Rattle.words.specs.LogicLaws.{or-is}
