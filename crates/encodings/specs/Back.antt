@@ -1,4 +1,4 @@
--- Decoding an instruction's word gives the instruction back.
+-- Decoding an instruction's word gives the instruction back, and the numbers of its fields are within their bits.
 use mathlib.Core.Path.{_≡_, refl, sym, subst, _∙_, ap}
 use mathlib.Core.Bool.{Bool, true, false, not}
 use mathlib.Core.List.{List, [], _∷_, map}
@@ -129,11 +129,11 @@ every-at f [] p h t = absurd (not-suc-le-zero h)
 every-at f (r ∷ rs) zero h t = both-left (f r) (everyRow f rs) t
 every-at f (r ∷ rs) (suc p) h t = every-at f rs p (le-of-suc-le-suc h) (both-right (f r) (everyRow f rs) t)
 
-abbrev headOr : {A : Type 0} → A → List A → A
+abbrev pub headOr : {A : Type 0} → A → List A → A
 headOr d [] = d
 headOr d (x ∷ xs) = x
 
-abbrev rest : {A : Type 0} → List A → List A
+abbrev pub rest : {A : Type 0} → List A → List A
 rest [] = []
 rest (x ∷ xs) = xs
 

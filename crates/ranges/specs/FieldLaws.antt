@@ -1,4 +1,4 @@
--- The operand and the numbers of a decoded instruction are within their bits, since its page takes them from so many: proofs.
+-- The operand and the numbers of a decoded instruction are within the bits that its page prints for them: proofs.
 use mathlib.Core.Path.{_≡_, refl, ap}
 use mathlib.Core.Bool.{Bool, true, false}
 use mathlib.Core.List.{List, [], _∷_, map}
@@ -14,7 +14,7 @@ use Rattle.instructions.specs.Encoding.{Page, pick, has, means, first, addressM
 use Rattle.instructions.specs.Pages.{pages}
 use Rattle.instructions.specs.Decode.{decodeOf}
 use Rattle.encodings.specs.Rows.{isOperand, isBranchPage}
-use Rattle.encodings.specs.Back.{fields-within}
+use Rattle.encodings.specs.Back.{fields-within, headOr, rest}
 use Rattle.pages.specs.declared.Operand.{Operand}
 use Rattle.pages.specs.declared.Operand.the-variants as Operand
 use Rattle.pages.specs.Traits.{traitsOf, accumulatorTraits, multiplierTraits, auxiliaryTraits, branchesTraits, transfersTraits, modesTraits}
@@ -74,14 +74,6 @@ row-fits : (d : Decoded) (o : Operand) → operandOr o d ≡ o → OperandFits o
 row-fits (Built i) o e f = rw e f
 row-fits Unbuilt o e f = tt
 row-fits Nothing o e f = tt
-
-abbrev headOr : Operand → List Operand → Operand
-headOr o [] = o
-headOr o (x ∷ xs) = x
-
-abbrev rest : List Operand → List Operand
-rest [] = []
-rest (x ∷ xs) = xs
 
 first-fits : (rs : List Page) (w : ℕ) → map (λ r. operandOr (printedOperand r w) (means r w)) rs ≡ map (λ r. printedOperand r w) rs
     → OperandFits (operandOr Operand.Nothing (first rs w))

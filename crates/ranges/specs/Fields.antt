@@ -35,7 +35,7 @@ pub record FieldsFit (x : Instruction) : Type 0 where
   pub operand : OperandFits (traitsOf x .operand)
   pub numbers : FieldsWithin (fieldsOf x)
 
--- of what a word is
+-- the same of what a word decodes to
 abbrev pub DecodedFits : Decoded → Type 0
 DecodedFits (Built i) = FieldsFit i
 DecodedFits Unbuilt = Unit {0}
