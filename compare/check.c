@@ -943,6 +943,10 @@ static void order(void)
     fresh();
     rom[0] = 0x83B0;
     refuses("3 before 9", 3);
+    /* The highest direct address is 65,535: absent, and 8 is retired. */
+    fresh();
+    m.dp = 511; rom[0] = 0x607F;
+    refuses("highest direct address", 6);
     /* 6 before 5 for the table word, then that 5. */
     fresh();
     rom[0] = 0x5D00; rom[1] = 0x1000;

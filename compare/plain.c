@@ -525,13 +525,13 @@ struct pass {
     const struct row *row;
     uint32_t word;
     uint32_t second;        /* of a two-word instruction */
-    uint32_t address;       /* in data memory */
+    uint32_t address;       /* in data memory, 16 bits */
     uint32_t operand;       /* the data word, where the page reads one */
     uint32_t table_address; /* MAC, MACD */
     uint32_t table_word;
 };
 
-/* The order of D01: 1, 2, 5, 3, 4, 7, 5, 9, 8, 6, 5, 10. */
+/* The order of D01, 8 retired: 1, 2, 5, 3, 4, 7, 5, 9, 6, 5, 10. */
 static int refused(const struct plain_machine *m, const struct board *b,
                    struct pass *pass)
 {
@@ -567,14 +567,11 @@ static int refused(const struct plain_machine *m, const struct board *b,
         return PLAIN_WRONG_PORT;
 
     if (row->access != NONE) {
-        bool direct = (pass->word & 0x80) == 0;
-        if (direct)
+        /* By check 1 DP is at most 511, so page and offset end at 65,535. */
+        if ((pass->word & 0x80) == 0)
             pass->address = 128 * m->dp + (pass->word & 0x7F);
         else
             pass->address = m->ar[m->arp];
-        /* 511 pages of 128 end at 65,535: never given while DP is in range. */
-        if (direct && pass->address > 0xFFFF)
-            return PLAIN_DIRECT_TOO_HIGH;
         if (!data_present(m->cnf, pass->address))
             return PLAIN_DATA_ABSENT;
         if (row->access == READS)

@@ -27,7 +27,7 @@ enum {
     PLAIN_LINE_ROOM = 64 + 5 * PLAIN_PORT_WORDS
 };
 
-/* Numbers that come back (D01). */
+/* Numbers that come back (D01). 8 is retired (document 02, request 10). */
 enum {
     PLAIN_DONE = 0,
     PLAIN_CELL_OUT_OF_RANGE = 1,
@@ -37,7 +37,6 @@ enum {
     PLAIN_PROGRAM_ABSENT = 5,
     PLAIN_DATA_ABSENT = 6,
     PLAIN_NOT_REPEATABLE = 7,
-    PLAIN_DIRECT_TOO_HIGH = 8,
     PLAIN_WRONG_PORT = 9,
     PLAIN_OUTPUT_FULL = 10,
     PLAIN_FILE_SHORT = 20,

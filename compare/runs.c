@@ -345,8 +345,10 @@ void compare_runs(uint64_t seed, uint64_t cases)
            ", from a run file %" PRIu64 "\n", cases, split_runs, file_runs);
     printf("  steps: %" PRIu64 ", the longest run %" PRIu64 "\n  by answer:",
            steps_done, most_steps);
-    for (int i = 0; i < ANSWERS; i++)
-        printf(" %d: %" PRIu64 "%s", i, answers[i], i + 1 < ANSWERS ? "," : "");
+    for (uint32_t i = 0; i < ANSWERS; i++)
+        if (is_step_answer(i))
+            printf(" %" PRIu32 ": %" PRIu64 "%s", i, answers[i],
+                   i + 1 < ANSWERS ? "," : "");
     printf("\n  by steps: 0: %" PRIu64, lengths[0]);
     for (int i = 1, from = 1; i < LENGTHS; i++, from *= 10)
         printf(", from %d: %" PRIu64, from, lengths[i]);

@@ -131,6 +131,7 @@ static uint32_t compare_step(const char *kind, uint64_t seed, uint64_t number)
         return plain.answer;
     if (report_difference(kind, seed, number)) {
         report_step(&before, word, second);
+        printf("  plain's answer %" PRIu32 "\n", plain.answer);
         report_number("answer", plain.answer, proved.answer);
     }
     sides_level(&world);
@@ -164,8 +165,10 @@ static uint32_t word_case(uint64_t seed, uint32_t word)
 static void print_answers(void)
 {
     printf("  by answer:");
-    for (int i = 0; i < ANSWERS; i++)
-        printf(" %d: %" PRIu64 "%s", i, answers[i], i + 1 < ANSWERS ? "," : "");
+    for (uint32_t i = 0; i < ANSWERS; i++)
+        if (is_step_answer(i))
+            printf(" %" PRIu32 ": %" PRIu64 "%s", i, answers[i],
+                   i + 1 < ANSWERS ? "," : "");
     printf("\n  5 by place:");
     for (int i = 0; i < 3; i++)
         printf(" %s %" PRIu64 "%s", absent_names[i], absent[i],
@@ -193,13 +196,12 @@ static void print_pages(void)
     printf("\n  pages with a mode, done: %d of %d\n", met, all);
 }
 
-/* Answer 8 cannot be given: DP 511 and offset 127 make 65,535. */
 static void find_missing(void)
 {
     char number[4];
-    for (int i = 0; i < ANSWERS; i++) {
-        snprintf(number, sizeof number, "%d", i);
-        if (answers[i] == 0 && i != PLAIN_DIRECT_TOO_HIGH)
+    for (uint32_t i = 0; i < ANSWERS; i++) {
+        snprintf(number, sizeof number, "%" PRIu32, i);
+        if (answers[i] == 0 && is_step_answer(i))
             report_missing("answer", number);
     }
     for (int i = 0; i < 3; i++)
