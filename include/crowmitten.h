@@ -29,7 +29,7 @@ enum crowmitten_answer {
     CROWMITTEN_PROGRAM_ABSENT = 5,    /* no such program address on the board */
     CROWMITTEN_DATA_ABSENT = 6,       /* no such data address on the board */
     CROWMITTEN_NOT_REPEATABLE = 7,    /* RPTC above 0, and the instruction cannot be repeated */
-    CROWMITTEN_ADDRESS_ABOVE = 8,     /* a direct address above 65,535: never given */
+    /* 8 is retired: it is not given, and no other answer gets the number. */
     CROWMITTEN_WRONG_PORT = 9,        /* IN from a port other than 0, OUT to one other than 1 */
     CROWMITTEN_OUTPUT_FULL = 10,      /* OUT with the output slice full */
     CROWMITTEN_FILE_SHORT = 20,       /* a run file of fewer than 16 bytes */
@@ -81,7 +81,7 @@ enum {
 /* The cells after reset, whatever they held: 0, or 2. */
 uint32_t crowmitten_reset(uint32_t *cells, size_t cells_length);
 
-/* One pass of the instruction at PC: 0 to 10. */
+/* One pass of the instruction at PC: 0 to 7, 9 or 10. */
 uint32_t crowmitten_step(uint32_t *cells, size_t cells_length,
                          const uint16_t *rom, size_t rom_length,
                          uint16_t *data, size_t data_length,
@@ -89,8 +89,8 @@ uint32_t crowmitten_step(uint32_t *cells, size_t cells_length,
                          uint16_t *output, size_t output_length);
 
 /*
- * At most budget steps, up to the first that is refused: 0 to 10. *steps: the
- * steps done, the refused one not counted.
+ * At most budget steps, up to the first that is refused: 0 to 7, 9 or 10.
+ * *steps: the steps done, the refused one not counted.
  */
 uint32_t crowmitten_run(uint32_t *cells, size_t cells_length,
                         const uint16_t *rom, size_t rom_length,

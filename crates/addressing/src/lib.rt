@@ -98,7 +98,7 @@ pub fn after_operand(m: Machine, operand: Operand) -> Machine
     }
 }
 
-// The address of an operand: above 65,535 only where DP is out of its range.
+// The address of an operand: at most 65,535 in every step, but DP and the offset hold more than their nine and seven bits.
 pub fn address_of(m: Machine, operand: Operand) -> u32
     ensures { λ r. ⌜ r ≡ addressOf operand m ⌝ }
 {

@@ -1,12 +1,12 @@
 -- A promise about numbers is a promise about answers: no two answers share a number.
 use mathlib.Core.Path.{_≡_, refl, sym, ap, _∙_}
-use mathlib.Core.Bool.{Bool, true, cond, false, false≢true}
+use mathlib.Core.Bool.{Bool, true, cond, false, not, false≢true}
 use mathlib.Core.List.{List, [], _∷_}
 use Prim.Native.Nat.{ℕ, _<_}
 use lib.Dec.{eqb, ltb}
 use borrow.Author.Tests.{eqb-true, eq-eqb, ltb-true}
 use Rattle.answers.specs.declared.Answer.{Answer}
-use Rattle.answers.specs.declared.Answer.the-variants.{Done, CellOutOfRange, SlicesUnfit, NoEncoding, NotBuilt, ProgramAbsent, DataAbsent, NotRepeatable, AddressAbove, WrongPort, OutputFull, FileShort, FileVersion, FileRules, FileNoRoom}
+use Rattle.answers.specs.declared.Answer.the-variants.{Done, CellOutOfRange, SlicesUnfit, NoEncoding, NotBuilt, ProgramAbsent, DataAbsent, NotRepeatable, WrongPort, OutputFull, FileShort, FileVersion, FileRules, FileNoRoom}
 use Rattle.answers.specs.Numbers.{numberOf, isDone}
 
 -- the first answer of a list that has the number n
@@ -25,7 +25,6 @@ answers =
     ∷ ProgramAbsent
     ∷ DataAbsent
     ∷ NotRepeatable
-    ∷ AddressAbove
     ∷ WrongPort
     ∷ OutputFull
     ∷ FileShort
@@ -47,7 +46,6 @@ back NotBuilt = refl
 back ProgramAbsent = refl
 back DataAbsent = refl
 back NotRepeatable = refl
-back AddressAbove = refl
 back WrongPort = refl
 back OutputFull = refl
 back FileShort = refl
@@ -82,6 +80,11 @@ each test d h a = ap test (sym (back a)) ∙ passes test (numberOf a) answers d 
 pub number-below : (a : Answer) → numberOf a < 100
 unfolding every answers
 number-below a = ltb-true _ _ (each (λ (x : Answer). ltb (numberOf x) 100) refl refl a)
+
+-- 8 is retired (document 02, request 10): no answer has its number, and none is to get it again
+pub never-8 : (a : Answer) → numberOf a ≡ 8 → ⊥
+unfolding every answers
+never-8 a h = false≢true (rw h at (each (λ (x : Answer). not (eqb (numberOf x) 8)) refl refl a))
 
 -- isDone a ≡ true exactly where the number is 0, and exactly where a is Done
 pub done-zero : (a : Answer) → isDone a ≡ true → numberOf a ≡ 0

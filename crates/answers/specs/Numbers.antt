@@ -3,7 +3,7 @@ use mathlib.Core.Bool.{Bool}
 use Prim.Native.Nat.{ℕ}
 use lib.Dec.{eqb}
 use Rattle.answers.specs.declared.Answer.{Answer}
-use Rattle.answers.specs.declared.Answer.the-variants.{Done, CellOutOfRange, SlicesUnfit, NoEncoding, NotBuilt, ProgramAbsent, DataAbsent, NotRepeatable, AddressAbove, WrongPort, OutputFull, FileShort, FileVersion, FileRules, FileNoRoom}
+use Rattle.answers.specs.declared.Answer.the-variants.{Done, CellOutOfRange, SlicesUnfit, NoEncoding, NotBuilt, ProgramAbsent, DataAbsent, NotRepeatable, WrongPort, OutputFull, FileShort, FileVersion, FileRules, FileNoRoom}
 
 abbrev pub numberOf : Answer → ℕ
 -- "step or run done"
@@ -22,8 +22,6 @@ numberOf ProgramAbsent = 5
 numberOf DataAbsent = 6
 -- "RPTC above 0 and its page says not repeatable"
 numberOf NotRepeatable = 7
--- "a direct address above 65,535"
-numberOf AddressAbove = 8
 -- "IN from a port other than 0, OUT to one other than 1"
 numberOf WrongPort = 9
 -- "OUT with the output slice full"

@@ -40,9 +40,9 @@ RefusedUnchanged = (g : Given) (w : World) → isDone (stepOf g w .answer) ≡ f
 
 -- ---- the answers
 
--- the numbers of a step and of a run in the table "Numbers that come back"
+-- the numbers of a step and of a run in the table "Numbers that come back", without 8, which is retired
 unfoldable pub stepNumbers : List ℕ
-stepNumbers = 0 ∷ 1 ∷ 2 ∷ 3 ∷ 4 ∷ 5 ∷ 6 ∷ 7 ∷ 8 ∷ 9 ∷ 10 ∷ []
+stepNumbers = 0 ∷ 1 ∷ 2 ∷ 3 ∷ 4 ∷ 5 ∷ 6 ∷ 7 ∷ 9 ∷ 10 ∷ []
 
 -- n is one of the numbers
 unfoldable pub isAmong : ℕ → List ℕ → Bool
@@ -87,7 +87,7 @@ RepeatBeforeSecondWord = (g : Given) (w : World) (i : Instruction) → Meets g w
     → notRepeatable (w .m) i ≡ true → secondAbsent (w .m) i ≡ true
     → numberOf (stepOf g w .answer) ≡ 7
 
--- "9, 8, 6": a wrong port, with an address that is absent
+-- 9, 6: a wrong port, with an address that is absent
 abbrev pub PortBeforeData : Type 0
 PortBeforeData = (g : Given) (w : World) (i : Instruction) → Meets g w i
     → notRepeatable (w .m) i ≡ false → secondAbsent (w .m) i ≡ false

@@ -57,6 +57,11 @@ table-numbered (Built i) g «data» outputLength m = refl
 table-numbered Unbuilt g «data» outputLength m = refl
 table-numbered Nothing g «data» outputLength m = refl
 
+-- 8 is retired
+pub eight-not-among : isAmong 8 stepNumbers ≡ false
+unfolding isAmong stepNumbers
+eight-not-among = refl
+
 pub answers-of-a-step : AnswersOfAStep
 answers-of-a-step g w =
     rw (step-answer g w) (first-numbered (rowsOf g w) (table-numbered (decodedAt g (w .«data») (w .m)) g (w .«data») (length (w .output)) (w .m)))

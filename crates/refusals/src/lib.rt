@@ -9,9 +9,7 @@ use pages::Traits;
 use steps::Plan;
 use steps::Write;
 ghost use mathlib.Core.Path.{_≡_};
-ghost use mathlib.Core.Bool.{not, cond, _&&_};
-ghost use lib.Dec.{ltb};
-ghost use Rattle.answers.specs.declared.Answer.the-variants.{AddressAbove, DataAbsent};
+ghost use mathlib.Core.Bool.{not, _&&_};
 ghost use Rattle.board.specs.Regions.{dataPresent, programPresent};
 ghost use Rattle.board.specs.Slices.{portSpent};
 ghost use Rattle.steps.specs.Pass.{refused};
@@ -59,15 +57,6 @@ fn is_sent(port: Port) -> bool
     }
 }
 
-fn is_present(cnf: u8, address: u32) -> bool
-    ensures { λ r. ⌜ r ≡ dataPresent cnf address ⌝ }
-{
-    if address < 65536 {
-        return regions::data_present(cnf, address as u16);
-    }
-    false
-}
-
 // Of a second word or a table word, asked only where there is one. Both places are asked at once: were it `program_present`, the compiler would
 // ask the first of them in every step.
 pub fn is_program_absent(needed: bool, cnf: u8, at: u16) -> bool
@@ -94,22 +83,12 @@ fn is_data_absent(accessed: bool, cnf: u8, address: u32) -> bool
     ensures { λ r. ⌜ r ≡ (accessed && not (dataPresent cnf address)) ⌝ }
 {
     if accessed {
-        return !is_present(cnf, address);
+        return !regions::data_present(cnf, address);
     }
     false
 }
 
-// An address above 65,535 is absent too: 8 comes before 6.
-fn absence(address: u32) -> Answer
-    ensures { λ r. ⌜ r ≡ cond (ltb 65535 address) AddressAbove DataAbsent ⌝ }
-{
-    if 65535 < address {
-        return Answer::AddressAbove;
-    }
-    Answer::DataAbsent
-}
-
-// What is asked of the port and of the operand at this address: 9, 8 and 6.
+// What is asked of the port and of the operand at this address: 9 and 6.
 fn access_refusal(t: Traits, address: u32, m: Machine) -> Answer
     ensures { λ r. ⌜ r ≡ firstGiven (accessRows t address m) ⌝ }
 {
@@ -119,7 +98,7 @@ fn access_refusal(t: Traits, address: u32, m: Machine) -> Answer
         return Answer::WrongPort;
     }
     if is_data_absent(is_accessed(access), m.cnf, address) {
-        return absence(address);
+        return Answer::DataAbsent;
     }
     Answer::Done
 }

@@ -1,4 +1,4 @@
-// Which data and program addresses are on the board.
+// Which data and program addresses are on the board. A data address has 32 bits, as `address_of` gives it; PC has 16.
 use board::Region;
 ghost use mathlib.Core.Path.{_≡_};
 ghost use Rattle.board.specs.Regions.{present, onChipRegion, dataRegion, dataPresent, onChip, moveAllowed, inRom, inProgramB0, programPresent};
@@ -27,7 +27,7 @@ pub fn region_on_chip(region: Region) -> bool
     }
 }
 
-pub fn data_region(cnf: u8, address: u16) -> Region
+pub fn data_region(cnf: u8, address: u32) -> Region
     ensures { λ r. ⌜ r ≡ dataRegion cnf address ⌝ }
 {
     if (address >= 0x400) & (address <= 0xFFF) {
@@ -45,29 +45,28 @@ pub fn data_region(cnf: u8, address: u16) -> Region
     Region::Absent
 }
 
-pub fn data_present(cnf: u8, address: u16) -> bool
+pub fn data_present(cnf: u8, address: u32) -> bool
     ensures { λ r. ⌜ r ≡ dataPresent cnf address ⌝ }
 {
     region_present(data_region(cnf, address))
 }
 
 // Whether an address is in an on-chip block that is now in data space.
-pub fn on_chip(cnf: u8, address: u16) -> bool
+pub fn on_chip(cnf: u8, address: u32) -> bool
     ensures { λ r. ⌜ r ≡ onChip cnf address ⌝ }
 {
     region_on_chip(data_region(cnf, address))
 }
 
-// Whether a data move copies the word at an address to the next one.
-pub fn move_allowed(cnf: u8, address: u16) -> bool
+// Whether a data move copies the word at an address to the next one. The next one is asked for only from an address on chip: there it
+// cannot overflow.
+pub fn move_allowed(cnf: u8, address: u32) -> bool
     ensures { λ r. ⌜ r ≡ moveAllowed cnf address ⌝ }
 {
-    if address == 0xFFFF {
+    if !on_chip(cnf, address) {
         return false;
     }
-    let here = on_chip(cnf, address);
-    let next = on_chip(cnf, address + 1);
-    here & next
+    on_chip(cnf, address + 1)
 }
 
 pub fn in_rom(address: u16) -> bool

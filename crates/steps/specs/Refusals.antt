@@ -2,10 +2,10 @@
 use mathlib.Core.Bool.{Bool, true, false, not, _&&_}
 use mathlib.Core.List.{List, [], _∷_, _++_}
 use Prim.Native.Nat.{ℕ}
-use lib.Dec.{ltb, eqb}
+use lib.Dec.{eqb}
 use Rattle.machine.specs.declared.Machine.{Machine}
 use Rattle.answers.specs.declared.Answer.{Answer}
-use Rattle.answers.specs.declared.Answer.the-variants.{ProgramAbsent, WrongPort, AddressAbove, DataAbsent, OutputFull}
+use Rattle.answers.specs.declared.Answer.the-variants.{ProgramAbsent, WrongPort, DataAbsent, OutputFull}
 use Rattle.pages.specs.declared.Access.{Access}
 use Rattle.pages.specs.declared.Access.the-variants as Access
 use Rattle.pages.specs.declared.Port.{Port}
@@ -33,10 +33,6 @@ sends Port.None = false
 sends (Port.Input port) = false
 sends (Port.Output port) = true
 
--- "a direct address above 65,535"; an indirect one is a register's
-unfoldable pub addressAbove : Traits → ℕ → Bool
-addressAbove t address = accesses (t .access) && ltb 65535 address
-
 -- "data address read or written is absent"
 unfoldable pub dataAbsent : Traits → ℕ → Machine → Bool
 dataAbsent t address m = accesses (t .access) && not (dataPresent (m .cnf) address)
@@ -49,11 +45,10 @@ tableAbsent t second m = t .table && not (programPresent (m .cnf) (tableAddress 
 unfoldable pub outputFull : Traits → ℕ → Machine → Bool
 outputFull t outputLength m = sends (t .port) && portSpent outputLength (m .«output_cursor»)
 
--- what is asked of the port and of the operand, for an operand at this address: "9, 8, 6"
+-- what is asked of the port and of the operand, for an operand at this address: 9, 6
 unfoldable pub accessRows : Traits → ℕ → Machine → List Row
 accessRows t address m =
     row "9" WrongPort (wrongPort (t .port))
-    ∷ row "8" AddressAbove (addressAbove t address)
     ∷ row "6" DataAbsent (dataAbsent t address m)
     ∷ []
 

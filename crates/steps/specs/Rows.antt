@@ -1,4 +1,4 @@
--- A table of answers: one row for each line of the order in document 01, with its words in that order, an answer, and whether its condition holds.
+-- A table of answers: one row for each line of the order in document 01, as document 02 changes it, with its words in that order, an answer, and whether its condition holds.
 use mathlib.Core.Path.{_≡_}
 use mathlib.Core.Bool.{Bool, false, cond}
 use mathlib.Core.List.{List, [], _∷_}

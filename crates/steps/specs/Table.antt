@@ -1,4 +1,4 @@
--- The table of answers of a step: one row for each line of the order in document 01. The refusal is the first row that holds.
+-- The table of answers of a step: one row for each line of the order in document 01, as document 02 changes it. The refusal is the first row that holds.
 use mathlib.Core.Bool.{Bool, not, cond, _&&_}
 use mathlib.Core.List.{List, [], _∷_, _++_}
 use Prim.Native.Nat.{ℕ}
@@ -65,7 +65,8 @@ instructionRows (Built i) g «data» outputLength m = repeatRows i m ++ passRows
 instructionRows Unbuilt g «data» outputLength m = []
 instructionRows Nothing g «data» outputLength m = []
 
--- "Order in a step: 1, 2, 5 for the first word, 3, 4, 7, 5 for the second word, 9, 8, 6, 5 for a MAC or MACD table word, 10."
+-- The order in a step, without 8, which is retired (request 10): 1, 2, 5 for the first word, 3, 4, 7, 5 for the second word, 9, 6, 5 for a MAC or MACD
+-- table word, 10.
 unfoldable pub tableFor : Decoded → Given → List ℕ → ℕ → Machine → List Row
 tableFor d g «data» outputLength m = checkRows g «data» outputLength m ++ (fetchRows m ++ (encodingRows d ++ instructionRows d g «data» outputLength m))
 

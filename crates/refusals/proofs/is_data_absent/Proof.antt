@@ -3,7 +3,7 @@ use Rattle.refusals.proofs.is_data_absent.Statement.{statement}
 use Rattle.refusals.proofs.is_data_absent.Tie as tie
 
 returns : tie.Need-returns
-returns c = rw (c .is-present .ensures, c .before .if1 .taken)
+returns c = rw (c .data-present .ensures, c .before .if1 .taken)
 
 pub is-data-absent-spec : {M : Type 1} → statement M
 is-data-absent-spec =

@@ -1,22 +1,30 @@
-use Rattle.board.specs.Regions.{moveAllowed, onChip, dataRegion}
+-- Not routine: an address on chip is below 1,024, so that the address plus 1 does not overflow.
+use mathlib.Core.Path.{sym, _∙_}
+use native.Mathlib.Omega.{arith}
+use borrow.Author.Tests.{not-true, not-false}
+use Rattle.board.specs.Regions.{moveAllowed}
+use Rattle.board.specs.RegionLaws.{on-chip-below}
 use borrow.Author.Needs.{needs}
 use Rattle.regions.proofs.move_allowed.Statement.{statement}
 use Rattle.regions.proofs.move_allowed.Tie as tie
 
 returns : tie.Need-returns
-unfolding moveAllowed onChip dataRegion
-returns c = rw (c .if1 .taken)
+unfolding moveAllowed
+returns c = rw (sym (c .before .on-chip .ensures) ∙ not-true _ (c .if1 .taken))
+
+add-on-chip : tie.Need-add-on-chip
+add-on-chip c = omega (arith, on-chip-below _ _ (sym (c .before .on-chip .ensures) ∙ not-false _ (c .if1 .left)))
 
 returns-2 : tie.Need-returns-2
 unfolding moveAllowed
-returns-2 c = rw (c .before .on-chip .ensures, c .on-chip2 .ensures)
+returns-2 c = rw (c .on-chip2 .ensures, sym (c .before .before .on-chip .ensures) ∙ not-false _ (c .before .if1 .left))
 
 pub move-allowed-spec : {M : Type 1} → statement M
 move-allowed-spec =
     tie.close
     (tie.spec
-    returns
     (λ c κs. search needs)
-    (λ c. search needs)
+    returns
+    add-on-chip
     (λ c κs. search needs)
     returns-2)

@@ -11,12 +11,12 @@ add-t10 : tie.Need-add-t10
 add-t10 c =
     omega (
       arith,
-      moves (c .before .before .before .before .before .args .cnf) (c .before .before .before .before .before .args .address) (sym (c .before .is-movable .ensures) ∙ c .if1 .taken) .below,
+      moves (c .before .before .before .before .before .args .cnf) (c .before .before .before .before .before .args .address) (sym (c .before .move-allowed .ensures) ∙ c .if1 .taken) .below,
     )
 
 returns : tie.Need-returns
 unfolding writeOf
-returns c = rw (c .before .before .before .store2 .given .1, ← c .before .is-movable .ensures, c .if1 .taken)
+returns c = rw (c .before .before .before .store2 .given .1, ← c .before .move-allowed .ensures, c .if1 .taken)
 
 returns-2 : tie.Need-returns-2
 unfolding writeOf
@@ -28,7 +28,7 @@ returns-3 c = rw (c .before .store .given .1)
 
 returns-4 : tie.Need-returns-4
 unfolding writeOf
-returns-4 c = rw (c .before .before .before .store2 .given .1, ← c .before .is-movable .ensures, c .if1 .left)
+returns-4 c = rw (c .before .before .before .store2 .given .1, ← c .before .move-allowed .ensures, c .if1 .left)
 
 returns-5 : tie.Need-returns-5
 unfolding writeOf
