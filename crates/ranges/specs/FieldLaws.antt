@@ -1,5 +1,5 @@
 -- The operand and the numbers of a decoded instruction are within the bits that its page prints for them: proofs.
-use mathlib.Core.Path.{_≡_, refl, ap}
+use mathlib.Core.Path.{_≡_, refl, ap, subst}
 use mathlib.Core.Bool.{Bool, true, false}
 use mathlib.Core.List.{List, [], _∷_, map}
 use Prim.Native.Nat.{ℕ, _/_, _%_, _<_}
@@ -8,6 +8,7 @@ use lib.Dec.{eqb, ltb}
 use borrow.Author.Tests.{ltb-true}
 use Rattle.operands.specs.declared.NextArp.the-variants.{Same, To}
 use Rattle.operands.specs.declared.Address.the-variants as Mode
+use Rattle.instructions.specs.declared.Instruction.{Instruction}
 use Rattle.instructions.specs.declared.Decoded.{Decoded}
 use Rattle.instructions.specs.declared.Decoded.the-variants.{Built, Unbuilt, Nothing}
 use Rattle.instructions.specs.Encoding.{Page, pick, has, means, first, addressModeOf, indirectOf, nextOf}
@@ -41,7 +42,7 @@ unfolding addressModeOf
 address-fits low = by (ltb low 128) refl
   where
     by : (t : Bool) → ltb low 128 ≡ t → AddressFits (pick t (Mode.Direct low) (Mode.Indirect (indirectOf low)))
-    by true e = ltb-true _ _ e
+    by true e = omega (arith, ltb-true low 128 e)
     by false e = indirect-fits low
 
 -- ---- the operand, by the low byte that the page prints
@@ -86,16 +87,20 @@ first-fits (r ∷ rs) w e =
     by true f next = f
     by false f next = next
 
--- ---- for every word of 16 bits
+-- ---- for every word
 
-pub decoded-fields : (w : ℕ) → w < 65536 → DecodedFits (decodeOf w)
+pub decoded-operand : (w : ℕ) (i : Instruction) → decodeOf w ≡ Built i → OperandFits (traitsOf i .operand)
 unfolding decodeOf
-decoded-fields w h = by (first pages w) refl (first-fits pages w (operands-printed w))
+decoded-operand w i e = subst (λ (d : Decoded). OperandFits (operandOr Operand.Nothing d)) e (first-fits pages w (operands-printed w))
+
+-- and for the numbers, every word of 16 bits
+pub decoded-fields : (w : ℕ) → w < 65536 → DecodedFits (decodeOf w)
+decoded-fields w h = by (decodeOf w) refl
   where
-    by : (d : Decoded) → decodeOf w ≡ d → OperandFits (operandOr Operand.Nothing d) → DecodedFits d
-    by (Built i) e f = record { operand = f; numbers = fields-within w i h e }
-    by Unbuilt e f = tt
-    by Nothing e f = tt
+    by : (d : Decoded) → decodeOf w ≡ d → DecodedFits d
+    by (Built i) e = record { operand = decoded-operand w i e; numbers = fields-within w i h e }
+    by Unbuilt e = tt
+    by Nothing e = tt
 
 pub fields-at : (g : Given) («data» : List ℕ) (m : Machine) → programWord (m .cnf) (m .pc) (g .rom) «data» < 65536 → DecodedFits (decodedAt g «data» m)
 unfolding decodedAt

@@ -1,8 +1,10 @@
 -- definitions
 pub mod Ranges
 pub mod Fields
+pub mod Retired
 -- proofs
 pub mod FieldLaws
+pub mod RetiredLaws
 pub mod Cells
 pub mod Widths
 pub mod Rules
