@@ -1,3 +1,4 @@
+-- Not routine: the code compares the word; ACC is negative where the word is 2^31 or more, which is what the definition's signed number says.
 use Rattle.branches.specs.Signs.{is-negative}
 use native.Mathlib.Omega.{arith}
 use Rattle.pages.specs.BranchesPages.{BLZ}

@@ -1,3 +1,4 @@
+-- Not routine: a law, computed over every low byte, says that the code's place is the first page of the group that has the byte.
 use mathlib.Core.Path.{_∙_}
 use Rattle.kinds.specs.Groups.{control-place, long-place, long-place-1, group-else}
 use borrow.Author.Needs.{needs}

@@ -1,3 +1,4 @@
+-- Not routine: the definition is one table; for an instruction that is built the rows of 3 and 4 do not hold, and what is left is the instruction's own plan.
 use Rattle.steps.specs.Pass.{planBy}
 use Rattle.steps.specs.Table.{encodingRows}
 use Rattle.steps.specs.Stages.{decodedPlan, instruction-stages}

@@ -1,3 +1,4 @@
+-- Not routine: the last arm is told only that the bits are none of those above; the definition's list then gives its default, no modification.
 use Rattle.instructions.specs.Encoding.{modificationOf, modifications}
 use Rattle.operands.specs.declared.Modification.the-variants.{None}
 use Rattle.meanings.proofs.Rest.{find-rest}

@@ -1,3 +1,4 @@
+-- Not routine: an absent address has an empty window, where the definition reads its default, 0.
 use mathlib.Core.Path.{sym}
 use native.Mathlib.Omega.{arith}
 use Rattle.board.specs.Windows.{programWord}
