@@ -9,3 +9,4 @@ pub mod Products
 -- laws
 pub mod WordLaws
 pub mod RegisterLaws
+pub mod ReversedLaws

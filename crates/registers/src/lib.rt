@@ -1,6 +1,6 @@
 // Sums of 16-bit registers.
 ghost use mathlib.Core.Path.{_≡_};
-ghost use Rattle.alu.specs.Registers.{wrappedSum, wrappedDifference, reversed, reversedSum, reversedDifference};
+ghost use Rattle.alu.specs.Registers.{wrappedSum, wrappedDifference, reversedSum, reversedDifference};
 
 pub fn wrapped_sum(a: u16, b: u16) -> u16
     ensures { λ r. ⌜ r ≡ wrappedSum a b ⌝ }
@@ -14,29 +14,24 @@ pub fn wrapped_difference(a: u16, b: u16) -> u16
     std::num::wrapping_sub_u16(a, b)
 }
 
-// The 16 bits in the other order.
-fn reverse(x: u16) -> u16
-    ensures { λ r. ⌜ r ≡ reversed 16 x ⌝ }
-{
-    let mut r: u32 = 0;
-    let mut v = x;
-    let mut left: u32 = 16;
-    while 0 < left {
-        r = r * 2 + (v % 2) as u32;
-        v = v / 2;
-        left -= 1;
-    }
-    r as u16
-}
-
+// Each turn adds what is carried to the sum, bit by bit, and carries into the bit below where both have a 1. The bits are done with from the highest to
+// the lowest: the highest bit that is carried falls with every turn, and the sum's bits above it no longer change (docs/REVERSED-CARRY.md).
 pub fn reversed_sum(a: u16, b: u16) -> u16
     ensures { λ r. ⌜ r ≡ reversedSum a b ⌝ }
 {
-    reverse(wrapped_sum(reverse(a), reverse(b)))
+    let mut sum = a;
+    let mut carry = b;
+    while 0 < carry {
+        let both = sum & carry;
+        sum = sum ^ carry;
+        carry = both >> 1;
+    }
+    sum
 }
 
+// The same loop with every bit inverted: where the one carries, the other borrows.
 pub fn reversed_difference(a: u16, b: u16) -> u16
     ensures { λ r. ⌜ r ≡ reversedDifference a b ⌝ }
 {
-    reverse(wrapped_difference(reverse(a), reverse(b)))
+    65535 - reversed_sum(65535 - a, b)
 }

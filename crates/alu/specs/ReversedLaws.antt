@@ -1,0 +1,111 @@
+-- Laws of reversed bits, over the width: how a sum with reversed carry is worked with the bits as they stand, each carry going into the bit below.
+use mathlib.Core.Path.{_≡_, sym, _∙_, ap, ap₂}
+use Prim.Native.Nat.{ℕ, zero, suc, _+_, _*_, _-_, _/_, _%_, _^_, _<_}
+use native.Mathlib.Omega.{arith}
+use native.Mathlib.Nat.{pow-suc, mod-lt}
+use lib.Bits.{bitAnd, bitXor, block-half, block-odd, and-le-l, and-shr, and-mod, xor-shr, xor-mod, xor-add-and}
+use lib.Pow.{pow-add, pow-pos, shr-lt, split, high, low, mod-pow-add}
+use Rattle.alu.specs.Registers.{wrappedSum, wrappedDifference, reversed, reversedSum, reversedDifference}
+use Rattle.alu.specs.RegisterLaws.{reversed-lt, reversed-step, reversed-none}
+
+pub reversed-zero : (k : ℕ) → reversed k 0 ≡ 0
+reversed-zero zero = reversed-none 0
+reversed-zero (suc k) = omega (arith, reversed-step k 0, reversed-zero k)
+
+-- a number of two parts: each is reversed by itself, and they change places
+pub reversed-parts : (k j x y : ℕ) → y < 2 ^ j → reversed (k + j) (x * 2 ^ j + y) ≡ reversed j y * 2 ^ k + reversed k x
+reversed-parts k zero x y h =
+    let width : k + 0 ≡ k = omega arith in
+    let number : x * 2 ^ 0 + y ≡ x = omega arith in
+    ap₂ reversed width number ∙ omega (arith, ap (λ (r : ℕ). r * 2 ^ k) (reversed-none y))
+reversed-parts k (suc j) x y h =
+    let width : k + suc j ≡ suc (k + j) = omega arith in
+    let half : y / 2 < 2 ^ j = omega (arith, pow-suc 2 j) in
+    ap (λ (w : ℕ). reversed w (x * 2 ^ suc j + y)) width ∙ reversed-step (k + j) (x * 2 ^ suc j + y)
+    ∙ ap₂ (λ (b r : ℕ). b * 2 ^ (k + j) + reversed (k + j) r) (block-odd x j y) (block-half x j y)
+    ∙ omega
+    (arith, reversed-parts k j x (y / 2) half, ap (λ (r : ℕ). r * 2 ^ k) (reversed-step j y), ap (λ (p : ℕ). y % 2 * p) (pow-add 2 k j))
+
+-- the highest bit becomes the lowest
+pub reversed-high : (k t r : ℕ) → t < 2 → r < 2 ^ k → reversed (suc k) (t * 2 ^ k + r) ≡ reversed k r * 2 + t
+reversed-high k t r ht hr =
+    let width : suc k ≡ 1 + k = omega arith in
+    ap (λ (w : ℕ). reversed w (t * 2 ^ k + r)) width ∙ reversed-parts 1 k t r hr ∙ omega (arith, reversed-step 0 t, reversed-none (t / 2))
+
+pub reversed-twice : (k n : ℕ) → n < 2 ^ k → reversed k (reversed k n) ≡ n
+reversed-twice zero n h = omega (arith, reversed-none (reversed zero n))
+reversed-twice (suc k) n h =
+    ap (reversed (suc k)) (reversed-step k n) ∙ reversed-high k (n % 2) (reversed k (n / 2)) (omega arith) (reversed-lt k (n / 2))
+    ∙ omega (arith, reversed-twice k (n / 2) (omega arith))
+
+-- a number moved one bit down is moved one bit up where it is reversed; its lowest bit goes beyond the width
+reversed-half : (k n : ℕ) → n < 2 ^ k → reversed k (n / 2) + n % 2 * 2 ^ k ≡ reversed k n * 2
+reversed-half zero n h = omega (arith, reversed-none (n / 2), reversed-none n)
+reversed-half (suc k) n h =
+    let below : reversed (suc k) (n / 2) ≡ reversed k (n / 2) * 2 = ap (reversed (suc k)) (omega arith) ∙ reversed-high k 0 (n / 2) (omega arith) (omega arith) ∙ omega arith in
+    omega (arith, below, reversed-step k n, ap (λ (e : ℕ). n % 2 * e) (pow-suc 2 k))
+
+-- each bit added by itself, and twice the carries
+reversed-columns : (k x y : ℕ) → reversed k x + reversed k y ≡ reversed k (bitXor x y) + reversed k (bitAnd x y) * 2
+reversed-columns zero x y = omega (arith, reversed-none x, reversed-none y, reversed-none (bitXor x y), reversed-none (bitAnd x y))
+reversed-columns (suc k) x y =
+    let digit : reversed (suc k) (bitXor x y) ≡ bitXor (x % 2) (y % 2) * 2 ^ k + reversed k (bitXor (x / 2) (y / 2)) =
+    reversed-step k (bitXor x y) ∙ ap₂ (λ (b r : ℕ). b * 2 ^ k + reversed k r) (xor-mod x y 1) (xor-shr x y 1) in
+    let carry : reversed (suc k) (bitAnd x y) ≡ bitAnd (x % 2) (y % 2) * 2 ^ k + reversed k (bitAnd (x / 2) (y / 2)) =
+    reversed-step k (bitAnd x y) ∙ ap₂ (λ (b r : ℕ). b * 2 ^ k + reversed k r) (and-mod x y 1) (and-shr x y 1) in
+    omega
+    (arith, digit, carry, reversed-step k x, reversed-step k y, reversed-columns k (x / 2) (y / 2), ap (λ (m : ℕ). m * 2 ^ k) (xor-add-and (x % 2) (y % 2)))
+
+-- adding each bit by itself, and putting the carries into the bits below, leaves the reversed sum as it is; what bit 0 carries goes beyond the width
+pub carried-below : (k x y : ℕ) → x < 2 ^ k
+    → reversed k x + reversed k y ≡ reversed k (bitXor x y) + reversed k (bitAnd x y / 2) + bitAnd x y % 2 * 2 ^ k
+carried-below k x y h = omega (arith, reversed-columns k x y, reversed-half k (bitAnd x y) (omega (arith, and-le-l x y)))
+
+-- n is b with every bit inverted: the same holds of both reversed
+reversed-inverted : (k n b : ℕ) → n + b + 1 ≡ 2 ^ k → reversed k n + reversed k b + 1 ≡ 2 ^ k
+reversed-inverted zero n b h = omega (arith, reversed-none n, reversed-none b)
+reversed-inverted (suc k) n b h =
+    let bits : n % 2 + b % 2 ≡ 1 = omega (arith, h, pow-suc 2 k) in
+    let rest : reversed k (n / 2) + reversed k (b / 2) + 1 ≡ 2 ^ k = reversed-inverted k (n / 2) (b / 2) (omega (arith, h, pow-suc 2 k)) in
+    omega (arith, reversed-step k n, reversed-step k b, rest, ap (λ (m : ℕ). m * 2 ^ k) bits, pow-suc 2 k)
+
+-- where what is still to be added has k bits, the bits from k up are done: they are those of the whole sum
+pub done-above : (j k sum rest : ℕ) → sum < 2 ^ (j + k) → rest < 2 ^ k
+    → reversed (j + k) ((reversed (j + k) sum + reversed (j + k) rest) % 2 ^ (j + k)) / 2 ^ k ≡ sum / 2 ^ k
+done-above j k sum rest h l =
+    let high-bits : ℕ = sum / 2 ^ k in
+    let low-bits : ℕ = sum % 2 ^ k in
+    let r : ℕ = reversed j high-bits in
+    let a : ℕ = reversed k low-bits + reversed k rest in
+    let turned : j + k ≡ k + j = omega arith in
+    let above : 0 * 2 ^ k + rest ≡ rest = omega arith in
+    let of-sum : reversed (j + k) sum ≡ reversed k low-bits * 2 ^ j + r =
+    ap (reversed (j + k)) (sym (split sum k)) ∙ reversed-parts j k high-bits low-bits (mod-lt sum (pow-pos k)) in
+    let of-rest : reversed (j + k) rest ≡ reversed k rest * 2 ^ j =
+    ap (reversed (j + k)) (sym above) ∙ reversed-parts j k 0 rest l ∙ omega (arith, reversed-zero j) in
+    let both : reversed (j + k) sum + reversed (j + k) rest ≡ a * 2 ^ j + r = omega (arith, of-sum, of-rest) in
+    let total : (a * 2 ^ j + r) % 2 ^ (k + j) ≡ a % 2 ^ k * 2 ^ j + r =
+    mod-pow-add (a * 2 ^ j + r) k j ∙ ap₂ (λ (x y : ℕ). x % 2 ^ k * 2 ^ j + y) (high a j (reversed-lt j high-bits)) (low a j (reversed-lt j high-bits)) in
+    ap (λ (n : ℕ). reversed (j + k) (n % 2 ^ (j + k)) / 2 ^ k) both ∙ ap (λ (w : ℕ). reversed w ((a * 2 ^ j + r) % 2 ^ w) / 2 ^ k) turned
+    ∙ ap (λ (n : ℕ). reversed (k + j) n / 2 ^ k) total ∙ ap (λ (n : ℕ). n / 2 ^ k) (reversed-parts k j (a % 2 ^ k) r (reversed-lt j high-bits))
+    ∙ high (reversed j r) k (reversed-lt k (a % 2 ^ k)) ∙ reversed-twice j high-bits (shr-lt j k h)
+
+-- ---- sums and differences of registers
+
+pub zero-added : (a : ℕ) → a < 2 ^ 16 → reversedSum a 0 ≡ a
+unfolding reversedSum wrappedSum
+zero-added a h = ap (reversed 16) (omega (arith, reversed-zero 16, reversed-lt 16 a)) ∙ reversed-twice 16 a h
+
+-- adding each bit by itself, and putting the carries into the bits below, leaves the sum as it is
+pub carried-sum : (a b : ℕ) → a < 2 ^ 16 → reversedSum (bitXor a b) (bitAnd a b / 2) ≡ reversedSum a b
+unfolding reversedSum wrappedSum
+carried-sum a b h = ap (reversed 16) (omega (arith, carried-below 16 a b h))
+
+-- a difference is the sum with every bit of the first inverted, and then of the result
+pub difference-inverted : (a b : ℕ) → a < 2 ^ 16 → b < 2 ^ 16 → 65535 - reversedSum (65535 - a) b ≡ reversedDifference a b
+unfolding reversedSum reversedDifference wrappedSum wrappedDifference
+difference-inverted a b h k =
+    let total : ℕ = (reversed 16 (65535 - a) + reversed 16 b) % 2 ^ 16 in
+    let inverted : (reversed 16 a + (2 ^ 16 - reversed 16 b)) % 2 ^ 16 ≡ 65535 - total =
+    omega (arith, reversed-inverted 16 (65535 - a) a (omega arith), reversed-lt 16 b) in
+    sym (ap (reversed 16) inverted ∙ omega (arith, reversed-inverted 16 (65535 - total) total (omega arith)))
