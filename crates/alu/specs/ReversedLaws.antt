@@ -1,9 +1,9 @@
 -- Laws of reversed bits, over the width: how a sum with reversed carry is worked with the bits as they stand, each carry going into the bit below.
-use mathlib.Core.Path.{_≡_, sym, _∙_, ap, ap₂}
-use Prim.Native.Nat.{ℕ, zero, suc, _+_, _*_, _-_, _/_, _%_, _^_, _<_}
+use mathlib.Core.Path.{_≡_, sym, _∙_, ap, ap₂, subst}
+use Prim.Native.Nat.{ℕ, zero, suc, _+_, _*_, _-_, _/_, _%_, _^_, _≤_, _<_}
 use native.Mathlib.Omega.{arith}
 use native.Mathlib.Nat.{pow-suc, mod-lt}
-use lib.Bits.{bitAnd, bitXor, block-half, block-odd, and-le-l, and-shr, and-mod, xor-shr, xor-mod, xor-add-and}
+use lib.Bits.{bitAnd, bitXor, block-half, block-odd, and-le-l, and-le-r, and-shr, and-mod, xor-shr, xor-mod, xor-add-and}
 use lib.Pow.{pow-add, pow-pos, shr-lt, split, high, low, mod-pow-add}
 use Rattle.alu.specs.Registers.{wrappedSum, wrappedDifference, reversed, reversedSum, reversedDifference}
 use Rattle.alu.specs.RegisterLaws.{reversed-lt, reversed-step, reversed-none}
@@ -56,39 +56,40 @@ reversed-columns (suc k) x y =
     omega
     (arith, digit, carry, reversed-step k x, reversed-step k y, reversed-columns k (x / 2) (y / 2), ap (λ (m : ℕ). m * 2 ^ k) (xor-add-and (x % 2) (y % 2)))
 
--- adding each bit by itself, and putting the carries into the bits below, leaves the reversed sum as it is; what bit 0 carries goes beyond the width
+-- adding each bit by itself, and putting the carries into the bits below, leaves the sum of the two reversed as it is; what bit 0 carries goes beyond
+-- the width
 pub carried-below : (k x y : ℕ) → x < 2 ^ k
     → reversed k x + reversed k y ≡ reversed k (bitXor x y) + reversed k (bitAnd x y / 2) + bitAnd x y % 2 * 2 ^ k
 carried-below k x y h = omega (arith, reversed-columns k x y, reversed-half k (bitAnd x y) (omega (arith, and-le-l x y)))
 
 -- n is b with every bit inverted: the same holds of both reversed
-reversed-inverted : (k n b : ℕ) → n + b + 1 ≡ 2 ^ k → reversed k n + reversed k b + 1 ≡ 2 ^ k
+pub reversed-inverted : (k n b : ℕ) → n + b + 1 ≡ 2 ^ k → reversed k n + reversed k b + 1 ≡ 2 ^ k
 reversed-inverted zero n b h = omega (arith, reversed-none n, reversed-none b)
 reversed-inverted (suc k) n b h =
     let bits : n % 2 + b % 2 ≡ 1 = omega (arith, h, pow-suc 2 k) in
     let rest : reversed k (n / 2) + reversed k (b / 2) + 1 ≡ 2 ^ k = reversed-inverted k (n / 2) (b / 2) (omega (arith, h, pow-suc 2 k)) in
     omega (arith, reversed-step k n, reversed-step k b, rest, ap (λ (m : ℕ). m * 2 ^ k) bits, pow-suc 2 k)
 
--- where what is still to be added has k bits, the bits from k up are done: they are those of the whole sum
-pub done-above : (j k sum rest : ℕ) → sum < 2 ^ (j + k) → rest < 2 ^ k
+-- where what is still to be added has at most k bits, the bits of the sum from k up are final: they are those of the whole sum
+pub final-above : (j k sum rest : ℕ) → sum < 2 ^ (j + k) → rest < 2 ^ k
     → reversed (j + k) ((reversed (j + k) sum + reversed (j + k) rest) % 2 ^ (j + k)) / 2 ^ k ≡ sum / 2 ^ k
-done-above j k sum rest h l =
+final-above j k sum rest h l =
     let high-bits : ℕ = sum / 2 ^ k in
     let low-bits : ℕ = sum % 2 ^ k in
-    let r : ℕ = reversed j high-bits in
-    let a : ℕ = reversed k low-bits + reversed k rest in
-    let turned : j + k ≡ k + j = omega arith in
+    let done : ℕ = reversed j high-bits in
+    let below : ℕ = reversed k low-bits + reversed k rest in
+    let order : j + k ≡ k + j = omega arith in
     let above : 0 * 2 ^ k + rest ≡ rest = omega arith in
-    let of-sum : reversed (j + k) sum ≡ reversed k low-bits * 2 ^ j + r =
+    let of-sum : reversed (j + k) sum ≡ reversed k low-bits * 2 ^ j + done =
     ap (reversed (j + k)) (sym (split sum k)) ∙ reversed-parts j k high-bits low-bits (mod-lt sum (pow-pos k)) in
     let of-rest : reversed (j + k) rest ≡ reversed k rest * 2 ^ j =
     ap (reversed (j + k)) (sym above) ∙ reversed-parts j k 0 rest l ∙ omega (arith, reversed-zero j) in
-    let both : reversed (j + k) sum + reversed (j + k) rest ≡ a * 2 ^ j + r = omega (arith, of-sum, of-rest) in
-    let total : (a * 2 ^ j + r) % 2 ^ (k + j) ≡ a % 2 ^ k * 2 ^ j + r =
-    mod-pow-add (a * 2 ^ j + r) k j ∙ ap₂ (λ (x y : ℕ). x % 2 ^ k * 2 ^ j + y) (high a j (reversed-lt j high-bits)) (low a j (reversed-lt j high-bits)) in
-    ap (λ (n : ℕ). reversed (j + k) (n % 2 ^ (j + k)) / 2 ^ k) both ∙ ap (λ (w : ℕ). reversed w ((a * 2 ^ j + r) % 2 ^ w) / 2 ^ k) turned
-    ∙ ap (λ (n : ℕ). reversed (k + j) n / 2 ^ k) total ∙ ap (λ (n : ℕ). n / 2 ^ k) (reversed-parts k j (a % 2 ^ k) r (reversed-lt j high-bits))
-    ∙ high (reversed j r) k (reversed-lt k (a % 2 ^ k)) ∙ reversed-twice j high-bits (shr-lt j k h)
+    let both : reversed (j + k) sum + reversed (j + k) rest ≡ below * 2 ^ j + done = omega (arith, of-sum, of-rest) in
+    let total : (below * 2 ^ j + done) % 2 ^ (k + j) ≡ below % 2 ^ k * 2 ^ j + done =
+    mod-pow-add (below * 2 ^ j + done) k j ∙ ap₂ (λ (x y : ℕ). x % 2 ^ k * 2 ^ j + y) (high below j (reversed-lt j high-bits)) (low below j (reversed-lt j high-bits)) in
+    ap (λ (n : ℕ). reversed (j + k) (n % 2 ^ (j + k)) / 2 ^ k) both ∙ ap (λ (w : ℕ). reversed w ((below * 2 ^ j + done) % 2 ^ w) / 2 ^ k) order
+    ∙ ap (λ (n : ℕ). reversed (k + j) n / 2 ^ k) total ∙ ap (λ (n : ℕ). n / 2 ^ k) (reversed-parts k j (below % 2 ^ k) done (reversed-lt j high-bits))
+    ∙ high (reversed j done) k (reversed-lt k (below % 2 ^ k)) ∙ reversed-twice j high-bits (shr-lt j k h)
 
 -- ---- sums and differences of registers
 
@@ -101,10 +102,21 @@ pub carried-sum : (a b : ℕ) → a < 2 ^ 16 → reversedSum (bitXor a b) (bitAn
 unfolding reversedSum wrappedSum
 carried-sum a b h = ap (reversed 16) (omega (arith, carried-below 16 a b h))
 
+-- the rest is then a bit lower, and the bits above the rest are final
+pub rest-a-bit-lower : (k sum rest : ℕ) → rest < 2 ^ suc k → bitAnd sum rest / 2 < 2 ^ k
+rest-a-bit-lower k sum rest h = omega (arith, and-le-r sum rest, pow-suc 2 k)
+
+pub bits-final : (k sum rest : ℕ) → k ≤ 16 → sum < 2 ^ 16 → rest < 2 ^ k → reversedSum sum rest / 2 ^ k ≡ sum / 2 ^ k
+unfolding reversedSum wrappedSum
+bits-final k sum rest h fits l =
+    let width : 16 - k + k ≡ 16 = omega arith in
+    subst (λ (w : ℕ). reversed w ((reversed w sum + reversed w rest) % 2 ^ w) / 2 ^ k ≡ sum / 2 ^ k) width
+    (final-above (16 - k) k sum rest (subst (λ (w : ℕ). sum < 2 ^ w) (sym width) fits) l)
+
 -- a difference is the sum with every bit of the first inverted, and then of the result
-pub difference-inverted : (a b : ℕ) → a < 2 ^ 16 → b < 2 ^ 16 → 65535 - reversedSum (65535 - a) b ≡ reversedDifference a b
+pub difference-inverted : (a b : ℕ) → a < 2 ^ 16 → 65535 - reversedSum (65535 - a) b ≡ reversedDifference a b
 unfolding reversedSum reversedDifference wrappedSum wrappedDifference
-difference-inverted a b h k =
+difference-inverted a b h =
     let total : ℕ = (reversed 16 (65535 - a) + reversed 16 b) % 2 ^ 16 in
     let inverted : (reversed 16 a + (2 ^ 16 - reversed 16 b)) % 2 ^ 16 ≡ 65535 - total =
     omega (arith, reversed-inverted 16 (65535 - a) a (omega arith), reversed-lt 16 b) in

@@ -14,22 +14,22 @@ pub fn wrapped_difference(a: u16, b: u16) -> u16
     std::num::wrapping_sub_u16(a, b)
 }
 
-// Each turn adds what is carried to the sum, bit by bit, and carries into the bit below where both have a 1. The bits are done with from the highest to
-// the lowest: the highest bit that is carried falls with every turn, and the sum's bits above it no longer change (docs/REVERSED-CARRY.md).
+// `rest` is what is still to be added, at first all of `b`. A turn adds each of its bits by itself; where both have a 1, a 1 is left to be added to the bit
+// below. So the carry runs downward: the highest bit of the rest falls with every turn, and the sum's bits above it are final (docs/REVERSED-CARRY.md).
 pub fn reversed_sum(a: u16, b: u16) -> u16
     ensures { λ r. ⌜ r ≡ reversedSum a b ⌝ }
 {
     let mut sum = a;
-    let mut carry = b;
-    while 0 < carry {
-        let both = sum & carry;
-        sum = sum ^ carry;
-        carry = both >> 1;
+    let mut rest = b;
+    while 0 < rest {
+        let both = sum & rest;
+        sum = sum ^ rest;
+        rest = both >> 1;
     }
     sum
 }
 
-// The same loop with every bit inverted: where the one carries, the other borrows.
+// The sum of `a` inverted and `b`, inverted: where that sum carries, the difference borrows.
 pub fn reversed_difference(a: u16, b: u16) -> u16
     ensures { λ r. ⌜ r ≡ reversedDifference a b ⌝ }
 {

@@ -1,5 +1,3 @@
-use mathlib.Core.Path.{_∙_, ap}
-use Prim.Native.Nat.{ℕ, _-_}
 use native.Mathlib.Omega.{arith}
 use Rattle.alu.specs.ReversedLaws.{difference-inverted}
 use borrow.Author.Needs.{needs}
@@ -7,7 +5,7 @@ use Rattle.registers.proofs.reversed_difference.Statement.{statement}
 use Rattle.registers.proofs.reversed_difference.Tie as tie
 
 returns : tie.Need-returns
-returns c = ap (λ (n : ℕ). 65535 - n) (c .reversed-sum .ensures) ∙ difference-inverted _ _ (omega arith) (omega arith)
+returns c = omega (arith, c .reversed-sum .ensures, difference-inverted (c .before .args .a) (c .before .args .b) (omega arith))
 
 pub reversed-difference-spec : {M : Type 1} → statement M
 reversed-difference-spec =
