@@ -26,6 +26,18 @@ reversed-parts k (suc j) x y h =
     ∙ omega
     (arith, reversed-parts k j x (y / 2) half, ap (λ (r : ℕ). r * 2 ^ k) (reversed-step j y), ap (λ (p : ℕ). y % 2 * p) (pow-add 2 k j))
 
+-- zeros below become zeros above
+pub reversed-shifted : (k j x : ℕ) → reversed (k + j) (x * 2 ^ j) ≡ reversed k x
+reversed-shifted k j x =
+    let number : x * 2 ^ j ≡ x * 2 ^ j + 0 = omega arith in
+    ap (reversed (k + j)) number ∙ reversed-parts k j x 0 (pow-pos j) ∙ omega (arith, ap (λ (r : ℕ). r * 2 ^ k) (reversed-zero j))
+
+-- a single 1, k bits up, comes to stand i bits up
+pub reversed-power : (i k : ℕ) → reversed (suc i + k) (2 ^ k) ≡ 2 ^ i
+reversed-power i k =
+    let one : 2 ^ k ≡ 1 * 2 ^ k = omega arith in
+    ap (reversed (suc i + k)) one ∙ reversed-shifted (suc i) k 1 ∙ omega (arith, reversed-step i 1, reversed-zero i)
+
 -- the highest bit becomes the lowest
 pub reversed-high : (k t r : ℕ) → t < 2 → r < 2 ^ k → reversed (suc k) (t * 2 ^ k + r) ≡ reversed k r * 2 + t
 reversed-high k t r ht hr =
@@ -96,6 +108,28 @@ final-above j k sum rest h l =
 pub zero-added : (a : ℕ) → a < 2 ^ 16 → reversedSum a 0 ≡ a
 unfolding reversedSum wrappedSum
 zero-added a h = ap (reversed 16) (omega (arith, reversed-zero 16, reversed-lt 16 a)) ∙ reversed-twice 16 a h
+
+again : (n : ℕ) → reversed 16 (reversed 16 (n % 2 ^ 16)) ≡ n % 2 ^ 16
+again n = reversed-twice 16 (n % 2 ^ 16) (omega arith)
+
+pub sum-commutes : (a b : ℕ) → reversedSum a b ≡ reversedSum b a
+unfolding reversedSum wrappedSum
+sum-commutes a b = ap (reversed 16) (omega arith)
+
+pub sum-associates : (a b c : ℕ) → reversedSum (reversedSum a b) c ≡ reversedSum a (reversedSum b c)
+unfolding reversedSum wrappedSum
+sum-associates a b c = ap (reversed 16) (rw (again (reversed 16 a + reversed 16 b), again (reversed 16 b + reversed 16 c)) (omega arith))
+
+-- subtracting what was added gives the register back
+pub sum-undone : (a b : ℕ) → a < 2 ^ 16 → reversedDifference (reversedSum a b) b ≡ a
+unfolding reversedSum reversedDifference wrappedSum wrappedDifference
+sum-undone a b h =
+    ap (reversed 16) (rw (again (reversed 16 a + reversed 16 b)) (omega (arith, reversed-lt 16 a, reversed-lt 16 b))) ∙ reversed-twice 16 a h
+
+-- and a register subtracted from itself is 0
+pub difference-of-itself : (a : ℕ) → reversedDifference a a ≡ 0
+unfolding reversedDifference wrappedDifference
+difference-of-itself a = ap (reversed 16) (omega (arith, reversed-lt 16 a)) ∙ reversed-zero 16
 
 -- adding each bit by itself, and putting the carries into the bits below, leaves the sum as it is
 pub carried-sum : (a b : ℕ) → a < 2 ^ 16 → reversedSum (bitXor a b) (bitAnd a b / 2) ≡ reversedSum a b

@@ -1,0 +1,4 @@
+-- the statements
+pub mod RowOrder
+-- proofs
+pub mod RowLaws
