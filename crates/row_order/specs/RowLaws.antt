@@ -1,5 +1,5 @@
 -- The row order of the transform: proofs.
-use mathlib.Core.Path.{_≡_, sym, _∙_, ap, ap₂, subst}
+use mathlib.Core.Path.{_≡_, refl, sym, _∙_, ap, ap₂, subst}
 use mathlib.Core.Bool.{true}
 use mathlib.Core.List.{List, [], _∷_}
 use Prim.Native.Nat.{ℕ, zero, suc, _+_, _*_, _-_, _%_, _^_, _≤_, _<_}
@@ -74,7 +74,8 @@ unfolding rowAfter moved reversedSum wrappedSum
 row-is zero index = sym (ap (reversed 16) (omega arith) ∙ reversed-zero 16)
 row-is (suc j) index =
     let total : ℕ = j * reversed 16 index in
-    ap (reversed 16) (rw (row-is j index, reversed-twice 16 (total % 2 ^ 16) (omega arith)) (omega arith))
+    let one-more : rowAfter (suc j) index ≡ reversed 16 ((reversed 16 (rowAfter j index) + reversed 16 index) % 2 ^ 16) = refl in
+    one-more ∙ ap (reversed 16) (rw (row-is j index, reversed-twice 16 (total % 2 ^ 16) (omega arith)) (omega arith))
 
 -- j additions of 2 to the k: the k + 1 low bits of j, reversed
 row-of-power : (k j : ℕ) → k ≤ 15 → rowAfter j (2 ^ k) ≡ reversed (suc k) (j % 2 ^ suc k)
