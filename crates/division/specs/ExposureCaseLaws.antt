@@ -31,10 +31,10 @@ use Rattle.steps.specs.Table.{checksOf, decodedAt, secondAddress, secondWord, n
 use Rattle.steps.specs.Step.{pagePlan, planOf, afterStore, stepOf, runOf}
 use Rattle.stacking.specs.Stacking.{wordAhead, by-rptk}
 use Rattle.division.specs.Exposure.{direct}
-use Rattle.division.specs.ExposureCase.{caseGiven, caseWorld, ExposureCase}
+use Rattle.division.specs.ExposureCase.{caseGiven, caseWorld, caseRun, ExposureCase}
 
 pub exposure-case : ExposureCase
-unfolding signed low holds noBorrow extended operand aluOutput subtractedConditionally wrappedSum resetMachine inRange lowFits addressModeOf decodeOf traitsOf accumulatorTraits modesTraits addressed addressOf SUBC accumulatorRule RPTK modesRule ruleOf followed destination dataRegion dataPresent inRom inProgramB0 programPresent memoriesFit portFits portSpent slicesFit windowOf programWord firstGiven accesses wrongPort sends dataAbsent tableAbsent outputFull passRows accessRows restRows writeOf dataAfter outputAfter readWord wordsRead effectOf passedMachine passedWrite performed planBy checksOf decodedAt secondAddress secondWord notRepeatable secondAbsent tableFor checkRows fetchRows encodingRows instructionRows repeatRows pagePlan planOf afterStore stepOf runOf wordAhead caseGiven caseWorld
+unfolding signed low holds noBorrow extended operand aluOutput subtractedConditionally wrappedSum resetMachine inRange lowFits addressModeOf decodeOf traitsOf accumulatorTraits modesTraits addressed addressOf SUBC accumulatorRule RPTK modesRule ruleOf followed destination dataRegion dataPresent inRom inProgramB0 programPresent memoriesFit portFits portSpent slicesFit windowOf programWord firstGiven accesses wrongPort sends dataAbsent tableAbsent outputFull passRows accessRows restRows writeOf dataAfter outputAfter readWord wordsRead effectOf passedMachine passedWrite performed planBy checksOf decodedAt secondAddress secondWord notRepeatable secondAbsent tableFor checkRows fetchRows encodingRows instructionRows repeatRows pagePlan planOf afterStore stepOf runOf wordAhead caseGiven caseWorld caseRun
 exposure-case = record {
   code = record {
     repeat = Family.Modes (Rptk 15);

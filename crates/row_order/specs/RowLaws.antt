@@ -19,7 +19,7 @@ use Rattle.operands.specs.declared.Modification.{Modification}
 use Rattle.operands.specs.declared.Modification.the-variants.{PlusReversed, MinusReversed}
 use Rattle.operands.specs.declared.NextArp.the-variants.{Same}
 use Rattle.pages.specs.Addressing.{moved, pointed, modified}
-use Rattle.row_order.specs.RowOrder.{added, Restores, ClearsItself, NotRestored, rowAfter, Cycles, addedTimes, OneRegister}
+use Rattle.row_order.specs.RowOrder.{indexAdded, Restores, ClearsItself, NotRestored, rowAfter, Cycles, indexAddedTimes, OneRegister}
 
 -- ---- one register of a machine
 
@@ -109,6 +109,6 @@ cycles k h = record {
 -- ---- the same of a machine
 
 pub one-register : OneRegister
-unfolding addedTimes rowAfter moved
+unfolding indexAddedTimes rowAfter moved
 one-register zero m ok other e = sym (ap (withRegister m (m .arp)) (sym e) ∙ put-back m (m .arp))
-one-register (suc j) m ok other e = ap added (one-register j m ok other e) ∙ moves m ok other PlusReversed (rowAfter j (register m 0))
+one-register (suc j) m ok other e = ap indexAdded (one-register j m ok other e) ∙ moves m ok other PlusReversed (rowAfter j (register m 0))

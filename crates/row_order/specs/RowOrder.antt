@@ -14,23 +14,23 @@ use Rattle.pages.specs.Addressing.{moved, modified}
 -- ---- adding and then subtracting
 
 -- the machine after the operand *BR0+, and after *BR0-, with no next ARP
-abbrev pub added : Machine → Machine
-added m = modified (record { modification = PlusReversed; next = Same }) m
+abbrev pub indexAdded : Machine → Machine
+indexAdded m = modified (record { modification = PlusReversed; next = Same }) m
 
-abbrev pub subtracted : Machine → Machine
-subtracted m = modified (record { modification = MinusReversed; next = Same }) m
+abbrev pub indexSubtracted : Machine → Machine
+indexSubtracted m = modified (record { modification = MinusReversed; next = Same }) m
 
 -- "Adding and then subtracting the same AR0 restores any register but AR0 itself": with ARP from 1 to 7 the whole machine is as it was
 abbrev pub Restores : Type 0
-Restores = (m : Machine) → inRange m ≡ true → 1 ≤ m .arp → subtracted (added m) ≡ m
+Restores = (m : Machine) → inRange m ≡ true → 1 ≤ m .arp → indexSubtracted (indexAdded m) ≡ m
 
 -- "but AR0 itself": with ARP 0, AR0 is 0 afterwards whatever it was, and nothing else is changed
 abbrev pub ClearsItself : Type 0
-ClearsItself = (m : Machine) → m .arp ≡ 0 → subtracted (added m) ≡ withRegister m 0 0
+ClearsItself = (m : Machine) → m .arp ≡ 0 → indexSubtracted (indexAdded m) ≡ withRegister m 0 0
 
 -- so that it is not restored, unless it was 0
 abbrev pub NotRestored : Type 0
-NotRestored = (m : Machine) → m .arp ≡ 0 → 1 ≤ register m 0 → subtracted (added m) ≡ m → ⊥
+NotRestored = (m : Machine) → m .arp ≡ 0 → 1 ≤ register m 0 → indexSubtracted (indexAdded m) ≡ m → ⊥
 
 -- ---- the cycle
 
@@ -63,11 +63,11 @@ Cycles = (k : ℕ) → k ≤ 15 → Cycle k
 -- ---- the same of a machine
 
 -- the machine after so many operands *BR0+
-unfoldable pub addedTimes : ℕ → Machine → Machine
-addedTimes zero m = m
-addedTimes (suc j) m = added (addedTimes j m)
+unfoldable pub indexAddedTimes : ℕ → Machine → Machine
+indexAddedTimes zero m = m
+indexAddedTimes (suc j) m = indexAdded (indexAddedTimes j m)
 
 -- the register that ARP points at, 1 to 7, comes through these values from zero, and nothing else is changed on the way
 abbrev pub OneRegister : Type 0
 OneRegister = (j : ℕ) (m : Machine) → inRange m ≡ true → 1 ≤ m .arp → register m (m .arp) ≡ 0
-    → addedTimes j m ≡ withRegister m (m .arp) (rowAfter j (register m 0))
+    → indexAddedTimes j m ≡ withRegister m (m .arp) (rowAfter j (register m 0))
