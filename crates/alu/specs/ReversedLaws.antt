@@ -1,4 +1,5 @@
--- Laws of reversed bits, over the width: how a sum with reversed carry is worked with the bits as they stand, each carry going into the bit below.
+-- Laws of reversed bits, over the width, and of sums with reversed carry: how such a sum is worked with the bits as they stand, each carry going into the
+-- bit below, and what it keeps of a plain sum's laws.
 use mathlib.Core.Path.{_≡_, sym, _∙_, ap, ap₂, subst}
 use Prim.Native.Nat.{ℕ, zero, suc, _+_, _*_, _-_, _/_, _%_, _^_, _≤_, _<_}
 use native.Mathlib.Omega.{arith}
@@ -109,8 +110,8 @@ pub zero-added : (a : ℕ) → a < 2 ^ 16 → reversedSum a 0 ≡ a
 unfolding reversedSum wrappedSum
 zero-added a h = ap (reversed 16) (omega (arith, reversed-zero 16, reversed-lt 16 a)) ∙ reversed-twice 16 a h
 
-again : (n : ℕ) → reversed 16 (reversed 16 (n % 2 ^ 16)) ≡ n % 2 ^ 16
-again n = reversed-twice 16 (n % 2 ^ 16) (omega arith)
+pub reversed-again : (n : ℕ) → reversed 16 (reversed 16 (n % 2 ^ 16)) ≡ n % 2 ^ 16
+reversed-again n = reversed-twice 16 (n % 2 ^ 16) (omega arith)
 
 pub sum-commutes : (a b : ℕ) → reversedSum a b ≡ reversedSum b a
 unfolding reversedSum wrappedSum
@@ -118,13 +119,13 @@ sum-commutes a b = ap (reversed 16) (omega arith)
 
 pub sum-associates : (a b c : ℕ) → reversedSum (reversedSum a b) c ≡ reversedSum a (reversedSum b c)
 unfolding reversedSum wrappedSum
-sum-associates a b c = ap (reversed 16) (rw (again (reversed 16 a + reversed 16 b), again (reversed 16 b + reversed 16 c)) (omega arith))
+sum-associates a b c = ap (reversed 16) (rw (reversed-again (reversed 16 a + reversed 16 b), reversed-again (reversed 16 b + reversed 16 c)) (omega arith))
 
 -- subtracting what was added gives the register back
 pub sum-undone : (a b : ℕ) → a < 2 ^ 16 → reversedDifference (reversedSum a b) b ≡ a
 unfolding reversedSum reversedDifference wrappedSum wrappedDifference
 sum-undone a b h =
-    ap (reversed 16) (rw (again (reversed 16 a + reversed 16 b)) (omega (arith, reversed-lt 16 a, reversed-lt 16 b))) ∙ reversed-twice 16 a h
+    ap (reversed 16) (rw (reversed-again (reversed 16 a + reversed 16 b)) (omega (arith, reversed-lt 16 a, reversed-lt 16 b))) ∙ reversed-twice 16 a h
 
 -- and a register subtracted from itself is 0
 pub difference-of-itself : (a : ℕ) → reversedDifference a a ≡ 0

@@ -1,7 +1,7 @@
 -- Division by SUBC (document 02, request 6): what sixteen passes of it in a row leave, over the emulator's own steps.
 use mathlib.Core.Path.{_≡_}
 use mathlib.Core.Bool.{true}
-use Prim.Native.Nat.{ℕ, zero, suc, _/_, _%_, _≤_}
+use Prim.Native.Nat.{ℕ, _/_, _%_, _≤_, _<_}
 use Rattle.alu.specs.Word.{lowHalf, highHalf}
 use Rattle.machine.specs.declared.Machine.{Machine}
 use Rattle.answers.specs.Numbers.{isDone}
@@ -26,16 +26,15 @@ abbrev pub wordRead : Given → World → Instruction → ℕ
 wordRead g w i = wordsRead (traitsOf i) (secondWord i g (w .«data») (w .m)) g (w .«data») (w .m) .operand
 
 -- the next step is a pass of SUBC, with any operand; it is not refused, and reads the word d
-pub record Passes (g : Given) (d : ℕ) (w : World) : Type 0 where
+pub record SubcPass (g : Given) (d : ℕ) (w : World) : Type 0 where
   pub operand : Address
   pub at-subc : decodedAt g (w .«data») (w .m) ≡ Built (subc operand)
   pub not-refused : isDone (stepOf g w .answer) ≡ true
   pub reads : wordRead g w (subc operand) ≡ d
 
--- and so the next n steps, whether they are repeated or stand one after another
-unfoldable pub AllPass : Given → ℕ → ℕ → World → Type 0
-AllPass g d zero w = Unit {0}
-AllPass g d (suc n) w = Passes g d w × AllPass g d n (stepOf g w .world)
+-- so is each of the next n steps, whether they are repeated or stand one after another
+abbrev pub SubcPasses : Given → ℕ → ℕ → World → Type 0
+SubcPasses g d n w = (j : ℕ) → j < n → SubcPass g d (worldAfter g j w)
 
 -- "the low half of ACC is the whole quotient, the high half the remainder, and OV is what it was"
 pub record Divided (dividend divisor : ℕ) (before after : Machine) : Type 0 where
@@ -50,5 +49,5 @@ pub record Divisor (d : ℕ) : Type 0 where
 
 -- "Take ACC any number N from 0 to 65,535 .. After exactly sixteen passes, all reading that word and none refused"
 abbrev pub Divides : Type 0
-Divides = (g : Given) (d : ℕ) (w : World) → w .m .acc ≤ 65535 → Divisor d → AllPass g d 16 w
+Divides = (g : Given) (d : ℕ) (w : World) → w .m .acc ≤ 65535 → Divisor d → SubcPasses g d 16 w
     → Divided (w .m .acc) d (w .m) (worldAfter g 16 w .m)

@@ -29,16 +29,16 @@ use Rattle.steps.specs.Step.{afterStore, stepOf, worldAfter}
 use Rattle.steps.specs.TableLaws.{step-world}
 use Rattle.frame_sums.specs.Frames.{Accumulation}
 use Rattle.stacking.specs.Passing.{Alike, operand-alike, accumulationOf, followed-follows}
-use Rattle.division.specs.Division.{subc, Passes, AllPass, Divisor, Divides}
+use Rattle.division.specs.Division.{subc, SubcPass, SubcPasses, Divisor, Divides}
 use Rattle.division.specs.Digits.{subtractedOnce, Digits, no-digit, next-digit, all-digits}
 
 -- ---- one subtraction
 
--- a number without its top bit is read as it is
+-- a number whose top bit is 0 is read as it is
 plain : (k w : ℕ) → w / 2 ^ (k - 1) ≡ 0 → signed k w ≡ pos w
 plain k w h = eq-from _ _ (omega (arith, signed-is k w, ap (λ (t : ℕ). 2 ^ k * t) h))
 
--- the divisor, shifted left by 15, whatever SXM is: "the divisor must have a 0 value in the MSB" (SUBC's page)
+-- the divisor, shifted left by 15, the same for either SXM: "If SXM=1, then the divisor must have a 0 value in the MSB" (SUBC's page)
 shifted-divisor : (d sxm : ℕ) → Divisor d → operand d 15 sxm ≡ d * 2 ^ 15
 unfolding operand extended low
 shifted-divisor d sxm h = by (eqb sxm 1)
@@ -86,7 +86,7 @@ module _ (g : Given) (d : ℕ) (w : World) (h : Divisor d) (below : w .m .acc < 
   unfolding SUBC
   rule n a = rw (a .acc, a .ov) (once (w .m .acc) d (w .m .ov) (n .sxm) h below)
 
-  one-pass : Passes g d w → (stepOf g w .world .m .acc ≡ subtractedOnce d (w .m .acc)) × (stepOf g w .world .m .ov ≡ w .m .ov)
+  one-pass : SubcPass g d w → (stepOf g w .world .m .acc ≡ subtractedOnce d (w .m .acc)) × (stepOf g w .world .m .ov ≡ w .m .ov)
   unfolding afterStore performed passedMachine effectOf traitsOf accumulatorTraits ruleOf accumulatorRule accumulationOf
   one-pass p =
       let n : Machine = addressed (At (p .operand)) (w .m) in
@@ -103,13 +103,13 @@ record After (n d i k : ℕ) (w v : World) : Type 0 where
   overflow : v .m .ov ≡ w .m .ov
 
 module _ (g : Given) (n d : ℕ) (h : Divisor d) where
-  passes : (i k : ℕ) (w : World) → Digits n d i (w .m .acc) → AllPass g d k w → After n d i k w (worldAfter g k w)
-  unfolding AllPass worldAfter
+  passes : (i k : ℕ) (w : World) → Digits n d i (w .m .acc) → SubcPasses g d k w → After n d i k w (worldAfter g k w)
+  unfolding worldAfter
   passes i zero w s p = let same : i + 0 ≡ i = omega arith in record { digits = rw same s; overflow = refl }
   passes i (suc k) w s p =
-      let o = one-pass g d w h (s .below) (p .0) in
+      let o = one-pass g d w h (s .below) (p 0 (omega arith)) in
       let next : Digits n d (suc i) (stepOf g w .world .m .acc) = rw (o .0) (next-digit n d i (w .m .acc) s) in
-      let rest = passes (suc i) k (stepOf g w .world) next (p .1) in
+      let rest = passes (suc i) k (stepOf g w .world) next (λ j l. p (suc j) (omega arith)) in
       let same : i + suc k ≡ suc i + k = omega arith in
       record { digits = rw same (rest .digits); overflow = rest .overflow ∙ o .1 }
 

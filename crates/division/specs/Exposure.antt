@@ -35,15 +35,15 @@ pub record ExposureCode (g : Given) (d : ℕ) (w : World) : Type 0 where
   pub operand : Address
   pub still : Still operand
   pub subc-second : decodeOf (wordAhead g 1 w) ≡ Built (subc operand)
-  -- at the address that it has after the repeat instruction, since an RPT may modify the register
-  pub divisor : getD (w .«data») (addressOf (At operand) (stepOf g w .world .m)) 0 ≡ d
+  -- at the address that it has after the repeat instruction, since an RPT may modify the register or change ARP
+  pub divisor-there : getD (w .«data») (addressOf (At operand) (stepOf g w .world .m)) 0 ≡ d
   pub not-refused : isDone (runOf g 17 w .answer) ≡ true
 
 -- what that run leaves
-pub record Exposed (g : Given) (d : ℕ) (w : World) : Type 0 where
+pub record ExposureDivides (g : Given) (d : ℕ) (w : World) : Type 0 where
   pub divided : Divided (w .m .acc) d (w .m) (runOf g 17 w .world .m)
   pub past-both-words : runOf g 17 w .world .m .pc ≡ wrappedSum (w .m .pc) 2
   pub same-data : runOf g 17 w .world .«data» ≡ w .«data»
 
 abbrev pub DividesByRepeat : Type 0
-DividesByRepeat = (g : Given) (d : ℕ) (w : World) → w .m .acc ≤ 65535 → Divisor d → ExposureCode g d w → Exposed g d w
+DividesByRepeat = (g : Given) (d : ℕ) (w : World) → w .m .acc ≤ 65535 → Divisor d → ExposureCode g d w → ExposureDivides g d w

@@ -5,11 +5,11 @@ use mathlib.Core.Bool.{true}
 use Prim.Native.Nat.{ℕ, zero, suc, _/_, _%_}
 use native.Mathlib.Omega.{arith}
 use lib.ListN.{getD}
-use lib.Seq.{set-getD}
 use Rattle.alu.specs.Word.{lowHalf, highHalf}
 use Rattle.alu.specs.Registers.{wrappedSum}
 use Rattle.machine.specs.declared.Machine.{Machine}
-use Rattle.machine.specs.Cells.{withPc, withAr, withMid, withRptc}
+use Rattle.machine.specs.Cells.{withPc, withMid, withRptc}
+use Rattle.machine.specs.CellLaws.{register-back}
 use Rattle.answers.specs.Numbers.{isDone}
 use Rattle.answers.specs.NumberLaws.{done-is}
 use Rattle.operands.specs.declared.Address.{Address}
@@ -33,7 +33,7 @@ use Rattle.frame_sums.specs.Frames.{Accumulation}
 use Rattle.stacking.specs.Stacking.{wordAhead}
 use Rattle.stacking.specs.Passing.{runs-on, accumulationOf}
 use Rattle.stacking.specs.Passes.{began, run-to}
-use Rattle.division.specs.Division.{subc, Passes, AllPass}
+use Rattle.division.specs.Division.{subc, SubcPass, SubcPasses}
 use Rattle.division.specs.Exposure.{Still, direct, indirect, DividesByRepeat}
 use Rattle.division.specs.DivisionLaws.{divides}
 
@@ -42,9 +42,9 @@ use Rattle.division.specs.DivisionLaws.{divides}
 still-machine : (a : Address) → Still a → (m : Machine) → addressed (At a) m ≡ m
 unfolding addressed modified pointed moved
 still-machine _ (direct offset) m = refl
-still-machine _ indirect m = ap (withAr m) (set-getD (m .ar) (m .arp) 0)
+still-machine _ indirect m = register-back m (m .arp)
 
--- a pass of SUBC and what follows it leave the operand's address as it was
+-- SUBC's rule, and what follows a pass that goes on, leave the operand's address as it was
 same-address : (a : Address) (m : Machine) (word pc k : ℕ) → addressOf (At a) (withMid (withRptc (withPc (SUBC word m) pc) k) 1) ≡ addressOf (At a) m
 unfolding addressOf SUBC
 same-address (Direct offset) m word pc k = refl
@@ -62,9 +62,9 @@ module _ (g : Given) (d : ℕ) (a : Address) (still : Still a) where
     unfolding traitsOf accumulatorTraits
     works = every-pass-works g v (subc a) (r .at-subc) refl (done-is _ done)
 
-    passes : Passes g d v
+    is-pass : SubcPass g d v
     unfolding traitsOf accumulatorTraits wordsRead readWord
-    passes = record { operand = a; at-subc = r .at-subc; not-refused = done; reads = r .divisor }
+    is-pass = record { operand = a; at-subc = r .at-subc; not-refused = done; reads = r .divisor }
 
     same-data : stepOf g v .world .«data» ≡ v .«data»
     unfolding traitsOf accumulatorTraits passedWrite effectOf ruleOf accumulatorRule writeOf dataAfter
@@ -88,16 +88,21 @@ module _ (g : Given) (d : ℕ) (a : Address) (still : Still a) where
 
   -- the passes of the repeat, to the last
   record Repeated (n : ℕ) (v u : World) : Type 0 where
-    all-pass : AllPass g d n v
+    all-pass : SubcPasses g d n v
     past : u .m .pc ≡ wrappedSum (v .m .pc) 1
     same : u .«data» ≡ v .«data»
 
+  first-and-rest : (n : ℕ) (v : World) → SubcPass g d v → SubcPasses g d n (stepOf g v .world) → SubcPasses g d (suc n) v
+  unfolding worldAfter
+  first-and-rest n v first rest zero l = first
+  first-and-rest n v first rest (suc j) l = rest j (omega arith)
+
   repeated : (k : ℕ) (v : World) → Ready k v → isDone (runOf g (suc k) v .answer) ≡ true → Repeated (suc k) v (worldAfter g (suc k) v)
-  unfolding AllPass worldAfter traitsOf accumulatorTraits
+  unfolding worldAfter traitsOf accumulatorTraits
   repeated zero v r done =
       let o = runs-on g 0 v done in
       record {
-        all-pass = (passes zero v r (o .step-done), tt);
+        all-pass = first-and-rest zero v (is-pass zero v r (o .step-done)) (λ j l. absurd (omega arith));
         past = ap (λ (m : Machine). m .pc) (works zero v r (o .step-done) .ends (r .count));
         same = same-data zero v r (o .step-done);
       }
@@ -106,7 +111,7 @@ module _ (g : Given) (d : ℕ) (a : Address) (still : Still a) where
       let rest = repeated k (stepOf g v .world) (again-ready k v r (o .step-done)) (o .rest-done) in
       let stays = ap (λ (m : Machine). m .pc) (works (suc k) v r (o .step-done) .goes-on k (r .count)) in
       record {
-        all-pass = (passes (suc k) v r (o .step-done), rest .all-pass);
+        all-pass = first-and-rest (suc k) v (is-pass (suc k) v r (o .step-done)) (rest .all-pass);
         past = rest .past ∙ ap (λ (pc : ℕ). wrappedSum pc 1) stays;
         same = rest .same ∙ same-data (suc k) v r (o .step-done);
       }
@@ -124,7 +129,7 @@ divides-by-repeat g d w few h c =
     let acc : v .m .acc ≡ w .m .acc = ap (λ (x : Accumulation). x .acc) (b .accumulation) in
     let ov : v .m .ov ≡ w .m .ov = ap (λ (x : Accumulation). x .ov) (b .accumulation) in
     let r = repeated g d (c .operand) (c .still) 15 v
-    (record { at-subc = rw (b .cnf, b .pc, b .same-data) (c .subc-second); count = b .rptc; divisor = rw (b .same-data) (c .divisor) }) (o .rest-done) in
+    (record { at-subc = rw (b .cnf, b .pc, b .same-data) (c .subc-second); count = b .rptc; divisor = rw (b .same-data) (c .divisor-there) }) (o .rest-done) in
     let q = divides g d v (rw acc few) h (r .all-pass) in
     let end : runOf g 17 w .world ≡ worldAfter g 16 v = run-to g 17 17 w (omega arith) (c .not-refused) in
     record {

@@ -5,11 +5,12 @@ use mathlib.Core.List.{List, [], _∷_}
 use Prim.Native.Nat.{ℕ}
 use Prim.Native.String.{String}
 use lib.Dec.{T, eqb, eqb→eq}
+use lib.Seq.{set-getD}
 use lib.Text.{eqt, eqt→eq, eqt-refl}
 use Rattle.hardware_stack.specs.declared.Stack.{Stack}
 use Rattle.machine.specs.declared.Machine.{Machine}
 use Rattle.machine.specs.Table.{Cell, cells, chosen, only, inColumn, countOf, rowsHeld}
-use Rattle.machine.specs.Cells.{built, put, putWords, withAr, withStack}
+use Rattle.machine.specs.Cells.{built, put, putWords, withAr, withStack, register, withRegister}
 use Rattle.machine.specs.Facts.{Sets, Setter, setters, cellWords, cellNumber}
 
 -- ---- a machine that is built holds under each name what was given for it
@@ -98,6 +99,10 @@ words-sets name h = record {
 
 pub ar-sets : Sets (List ℕ) (λ (m : Machine). m .ar) withAr
 ar-sets = words-sets "AR" tt
+
+-- a register that is given what it holds
+pub register-back : (m : Machine) (i : ℕ) → withRegister m i (register m i) ≡ m
+register-back m i = ap (withAr m) (set-getD (m .ar) i 0)
 
 pub stack-sets : Sets Stack (λ (m : Machine). m .stack) withStack
 stack-sets = record { gives = λ m x. refl; restores = λ m x. refl }

@@ -7,28 +7,26 @@ use native.Mathlib.Omega.{arith}
 use native.Mathlib.Nat.{mod-self, mod-eq-of-lt, mul-mod-left}
 use lib.ListN.{getD, set}
 use lib.Pow.{shl-shr, mod-pow-add}
-use lib.Seq.{getD-set-same, getD-set-other, set-getD, set-set}
+use lib.Seq.{getD-set-same, getD-set-other, set-set}
 use Rattle.alu.specs.Registers.{wrappedSum, reversed, reversedSum, reversedDifference}
 use Rattle.alu.specs.RegisterLaws.{reversed-lt}
-use Rattle.alu.specs.ReversedLaws.{reversed-zero, reversed-twice, reversed-shifted, reversed-power, sum-undone, difference-of-itself}
+use Rattle.alu.specs.ReversedLaws.{reversed-zero, reversed-twice, reversed-again, reversed-shifted, reversed-power, zero-added, sum-undone, difference-of-itself}
 use Rattle.machine.specs.declared.Machine.{Machine}
 use Rattle.machine.specs.Cells.{register, withAr, withRegister}
+use Rattle.machine.specs.CellLaws.{register-back}
 use Rattle.machine.specs.Range.{inRange}
 use Rattle.machine.specs.RangeLaws.{ranged, most, word-most, words-count}
 use Rattle.operands.specs.declared.Modification.{Modification}
 use Rattle.operands.specs.declared.Modification.the-variants.{PlusReversed, MinusReversed}
 use Rattle.operands.specs.declared.NextArp.the-variants.{Same}
 use Rattle.pages.specs.Addressing.{moved, pointed, modified}
-use Rattle.row_order.specs.RowOrder.{indexAdded, Restores, ClearsItself, NotRestored, rowAfter, Cycles, indexAddedTimes, OneRegister}
+use Rattle.row_order.specs.RowOrder.{indexAdded, Restores, ClearsItself, NotRestored, ZeroIndexAdded, rowAfter, Cycles, indexAddedTimes, OneRegister}
 
 -- ---- one register of a machine
 
--- what was put into a register, and put again
+-- only the last number put into a register stays
 put-again : (m : Machine) (i x y : ℕ) → withRegister (withRegister m i x) i y ≡ withRegister m i y
 put-again m i x y = ap (withAr m) (set-set (m .ar) i x y)
-
-put-back : (m : Machine) (i : ℕ) → withRegister m i (register m i) ≡ m
-put-back m i = ap (withAr m) (set-getD (m .ar) i 0)
 
 module _ (m : Machine) (ok : inRange m ≡ true) (other : 1 ≤ m .arp) where
   -- the register that ARP points at holds what is put there, and AR0 stays
@@ -49,7 +47,7 @@ unfolding modified pointed moved
 restores m ok other =
     let r : ℕ = register m (m .arp) in
     moves m ok other MinusReversed (reversedSum r (register m 0))
-    ∙ ap (withRegister m (m .arp)) (sum-undone r (register m 0) (omega (arith, word-most (ranged m ok) "AR" (m .arp)))) ∙ put-back m (m .arp)
+    ∙ ap (withRegister m (m .arp)) (sum-undone r (register m 0) (omega (arith, word-most (ranged m ok) "AR" (m .arp)))) ∙ register-back m (m .arp)
 
 pub clears-itself : ClearsItself
 unfolding modified pointed moved
@@ -67,6 +65,13 @@ not-restored m e some same = by (m .ar) some (ap (λ (n : Machine). register n 0
     by [] h f = omega arith
     by (x ∷ l) h f = omega arith
 
+pub zero-index-added : ZeroIndexAdded
+unfolding modified pointed moved
+zero-index-added m ok e =
+    let r : ℕ = register m (m .arp) in
+    ap (λ (index : ℕ). withRegister m (m .arp) (reversedSum r index)) e
+    ∙ ap (withRegister m (m .arp)) (zero-added r (omega (arith, word-most (ranged m ok) "AR" (m .arp)))) ∙ register-back m (m .arp)
+
 -- ---- the cycle
 
 row-is : (j index : ℕ) → rowAfter j index ≡ reversed 16 (j * reversed 16 index % 2 ^ 16)
@@ -75,7 +80,7 @@ row-is zero index = sym (ap (reversed 16) (omega arith) ∙ reversed-zero 16)
 row-is (suc j) index =
     let total : ℕ = j * reversed 16 index in
     let one-more : rowAfter (suc j) index ≡ reversed 16 ((reversed 16 (rowAfter j index) + reversed 16 index) % 2 ^ 16) = refl in
-    one-more ∙ ap (reversed 16) (rw (row-is j index, reversed-twice 16 (total % 2 ^ 16) (omega arith)) (omega arith))
+    one-more ∙ ap (reversed 16) (rw (row-is j index, reversed-again total) (omega arith))
 
 -- j additions of 2 to the k: the k + 1 low bits of j, reversed
 row-of-power : (k j : ℕ) → k ≤ 15 → rowAfter j (2 ^ k) ≡ reversed (suc k) (j % 2 ^ suc k)
@@ -110,5 +115,5 @@ cycles k h = record {
 
 pub one-register : OneRegister
 unfolding indexAddedTimes rowAfter moved
-one-register zero m ok other e = sym (ap (withRegister m (m .arp)) (sym e) ∙ put-back m (m .arp))
+one-register zero m ok other e = sym (ap (withRegister m (m .arp)) (sym e) ∙ register-back m (m .arp))
 one-register (suc j) m ok other e = ap indexAdded (one-register j m ok other e) ∙ moves m ok other PlusReversed (rowAfter j (register m 0))

@@ -1,5 +1,5 @@
--- The row order of the transform (document 02, request 8): what operands with reversed carry do to a machine, and the values that a register comes
--- through. The laws of the sum itself, of registers alone, are in crates/alu/specs/ReversedLaws.antt.
+-- The row order of the transform (document 02, request 8): what operands with reversed carry do to a machine, and the values that a register
+-- takes. The laws of the sum itself, of registers alone, are in crates/alu/specs/ReversedLaws.antt.
 use mathlib.Core.Path.{_≡_}
 use mathlib.Core.Bool.{true}
 use Prim.Native.Nat.{ℕ, zero, suc, _^_, _≤_, _<_}
@@ -28,9 +28,13 @@ Restores = (m : Machine) → inRange m ≡ true → 1 ≤ m .arp → indexSubtra
 abbrev pub ClearsItself : Type 0
 ClearsItself = (m : Machine) → m .arp ≡ 0 → indexSubtracted (indexAdded m) ≡ withRegister m 0 0
 
--- so that it is not restored, unless it was 0
+-- so that it is not restored where it was not 0
 abbrev pub NotRestored : Type 0
 NotRestored = (m : Machine) → m .arp ≡ 0 → 1 ≤ register m 0 → indexSubtracted (indexAdded m) ≡ m → ⊥
+
+-- "zero leaves it unchanged": where AR0 is 0
+abbrev pub ZeroIndexAdded : Type 0
+ZeroIndexAdded = (m : Machine) → inRange m ≡ true → register m 0 ≡ 0 → indexAdded m ≡ m
 
 -- ---- the cycle
 
@@ -39,7 +43,7 @@ unfoldable pub rowAfter : ℕ → ℕ → ℕ
 rowAfter zero index = 0
 rowAfter (suc j) index = moved PlusReversed (rowAfter j index) index
 
--- fewer than `limit` additions come to this value, and only one number of them does
+-- exactly one number of additions below `limit` comes to this value
 pub record VisitedOnce (value limit index : ℕ) : Type 0 where
   pub additions : ℕ
   pub few : additions < limit
@@ -67,7 +71,7 @@ unfoldable pub indexAddedTimes : ℕ → Machine → Machine
 indexAddedTimes zero m = m
 indexAddedTimes (suc j) m = indexAdded (indexAddedTimes j m)
 
--- the register that ARP points at, 1 to 7, comes through these values from zero, and nothing else is changed on the way
+-- the register that ARP points at, 1 to 7, takes these values from zero on, and nothing else is changed on the way
 abbrev pub OneRegister : Type 0
 OneRegister = (j : ℕ) (m : Machine) → inRange m ≡ true → 1 ≤ m .arp → register m (m .arp) ≡ 0
     → indexAddedTimes j m ≡ withRegister m (m .arp) (rowAfter j (register m 0))

@@ -1,0 +1,4 @@
+-- the statement
+pub mod ExposureCases
+-- proofs
+pub mod ExposureCaseLaws

@@ -1,0 +1,1 @@
+// Runs of the exposure code, computed, in specs/ alone: no function is needed here.
