@@ -14,21 +14,20 @@ use Rattle.alu.specs.PageSums.{aluOutput, subtractedConditionally}
 use Rattle.sums.specs.SumLaws.{holds-in}
 use Rattle.machine.specs.declared.Machine.{Machine}
 use Rattle.answers.specs.NumberLaws.{done-is}
+use Rattle.instructions.specs.declared.Instruction.{Instruction}
 use Rattle.pages.specs.declared.Operand.the-variants.{At}
-use Rattle.pages.specs.declared.Jump.the-variants.{Past}
 use Rattle.pages.specs.Traits.{traitsOf, accumulatorTraits}
 use Rattle.pages.specs.Addressing.{addressed}
-use Rattle.pages.specs.Passes.{followed}
 use Rattle.pages.specs.AccumulatorPages.{SUBC}
 use Rattle.pages.specs.AccumulatorRule.{accumulatorRule}
 use Rattle.pages.specs.Rules.{ruleOf}
 use Rattle.board.specs.Given.{Given}
-use Rattle.steps.specs.Pass.{effectOf, passedMachine, performed}
+use Rattle.steps.specs.Pass.{effectOf}
 use Rattle.steps.specs.World.{World}
-use Rattle.steps.specs.Step.{afterStore, stepOf, worldAfter}
-use Rattle.steps.specs.TableLaws.{step-world}
-use Rattle.frame_sums.specs.Frames.{Accumulation}
-use Rattle.stacking.specs.Passing.{Alike, operand-alike, accumulationOf, followed-follows}
+use Rattle.steps.specs.Step.{stepOf, worldAfter}
+use Rattle.laws.specs.Laws.{PassWorks, effectAt}
+use Rattle.laws.specs.Repeats.{every-pass-works}
+use Rattle.laws.specs.OperandLaws.{Alike, operand-alike}
 use Rattle.division.specs.Division.{subc, SubcPass, SubcPasses, Divisor, Divides}
 use Rattle.division.specs.Digits.{subtractedOnce, Digits, no-digit, next-digit, all-digits}
 
@@ -86,14 +85,22 @@ module _ (g : Given) (d : ℕ) (w : World) (h : Divisor d) (below : w .m .acc < 
   unfolding SUBC
   rule n a = rw (a .acc, a .ov) (once (w .m .acc) d (w .m .ov) (n .sxm) h below)
 
+  -- ACC and OV are the rule's, whether the pass goes on or is the last of its repeat
+  rule-leaves : (i : Instruction) → PassWorks g w i → (stepOf g w .world .m .acc ≡ effectAt g w i .m .acc) × (stepOf g w .world .m .ov ≡ effectAt g w i .m .ov)
+  rule-leaves i works = by (w .m .rptc) refl
+    where
+      by : (n : ℕ) → w .m .rptc ≡ n → (stepOf g w .world .m .acc ≡ effectAt g w i .m .acc) × (stepOf g w .world .m .ov ≡ effectAt g w i .m .ov)
+      by zero e = (ap (λ (m : Machine). m .acc) (works .ends e), ap (λ (m : Machine). m .ov) (works .ends e))
+      by (suc n) e = (ap (λ (m : Machine). m .acc) (works .goes-on n e), ap (λ (m : Machine). m .ov) (works .goes-on n e))
+
   one-pass : SubcPass g d w → (stepOf g w .world .m .acc ≡ subtractedOnce d (w .m .acc)) × (stepOf g w .world .m .ov ≡ w .m .ov)
-  unfolding afterStore performed passedMachine effectOf traitsOf accumulatorTraits ruleOf accumulatorRule accumulationOf
+  unfolding effectOf traitsOf accumulatorTraits ruleOf accumulatorRule
   one-pass p =
-      let n : Machine = addressed (At (p .operand)) (w .m) in
-      let f : accumulationOf (followed (SUBC d n) Past 1 true) ≡ accumulationOf (SUBC d n) = followed-follows (SUBC d n) Past 1 true .accumulation in
-      let o = rule n (operand-alike (At (p .operand)) (w .m)) in
-      rw (step-world g w (subc (p .operand)) (p .at-subc) (done-is _ (p .not-refused)), p .reads)
-      (ap (λ (x : Accumulation). x .acc) f ∙ o .0, ap (λ (x : Accumulation). x .ov) f ∙ o .1)
+      let i = subc (p .operand) in
+      let left = rule-leaves i (every-pass-works g w i (p .at-subc) refl (done-is _ (p .not-refused))) in
+      let effect : effectAt g w i .m ≡ SUBC d (addressed (At (p .operand)) (w .m)) = ap (λ (x : ℕ). SUBC x (addressed (At (p .operand)) (w .m))) (p .reads) in
+      let o = rule (addressed (At (p .operand)) (w .m)) (operand-alike (At (p .operand)) (w .m)) in
+      (left .0 ∙ ap (λ (m : Machine). m .acc) effect ∙ o .0, left .1 ∙ ap (λ (m : Machine). m .ov) effect ∙ o .1)
 
 -- ---- sixteen
 

@@ -18,7 +18,7 @@ use Rattle.board.specs.Given.{Given}
 use Rattle.steps.specs.World.{World}
 use Rattle.steps.specs.Table.{decodedAt}
 use Rattle.steps.specs.Step.{stepOf, runOf}
-use Rattle.stacking.specs.Stacking.{wordAhead, Repeats}
+use Rattle.laws.specs.Repeating.{wordAhead, Repeats}
 use Rattle.division.specs.Division.{subc, Divided, Divisor}
 
 -- "an address the passes do not change": a direct operand, or an indirect one with no modification and no next ARP

@@ -29,10 +29,10 @@ use Rattle.steps.specs.Table.{decodedAt}
 use Rattle.steps.specs.Step.{stepOf, runOf, worldAfter}
 use Rattle.laws.specs.Laws.{PassWorks, effectAt}
 use Rattle.laws.specs.Repeats.{every-pass-works}
-use Rattle.frame_sums.specs.Frames.{Accumulation}
-use Rattle.stacking.specs.Stacking.{wordAhead}
-use Rattle.stacking.specs.Passing.{runs-on, accumulationOf}
-use Rattle.stacking.specs.Passes.{began, run-to}
+use Rattle.laws.specs.Repeating.{wordAhead}
+use Rattle.laws.specs.RepeatingLaws.{repeat-begins}
+use Rattle.laws.specs.OperandLaws.{operand-alike}
+use Rattle.laws.specs.Runs.{runs-on, run-to}
 use Rattle.division.specs.Division.{subc, SubcPass, SubcPasses}
 use Rattle.division.specs.Exposure.{Still, direct, indirect, DividesByRepeat}
 use Rattle.division.specs.DivisionLaws.{divides}
@@ -121,15 +121,22 @@ unfolding wrappedSum
 two-words pc = omega arith
 
 pub divides-by-repeat : DividesByRepeat
-unfolding decodedAt wordAhead worldAfter accumulationOf
+unfolding decodedAt wordAhead worldAfter
 divides-by-repeat g d w few h c =
     let o = runs-on g 16 w (c .not-refused) in
     let v = stepOf g w .world in
-    let b = began g w (c .repeat) 15 (c .repeat-gives) (c .repeat-first) (o .step-done) in
-    let acc : v .m .acc ≡ w .m .acc = ap (λ (x : Accumulation). x .acc) (b .accumulation) in
-    let ov : v .m .ov ≡ w .m .ov = ap (λ (x : Accumulation). x .ov) (b .accumulation) in
-    let r = repeated g d (c .operand) (c .still) 15 v
-    (record { at-subc = rw (b .cnf, b .pc, b .same-data) (c .subc-second); count = b .rptc; divisor = rw (b .same-data) (c .divisor-there) }) (o .rest-done) in
+    let begun = repeat-begins g w (c .repeat) 15 (c .repeat-gives) (c .repeat-first) (done-is _ (o .step-done)) in
+    let a = operand-alike (traitsOf (c .repeat) .operand) (w .m) in
+    let acc : v .m .acc ≡ w .m .acc = ap (λ (u : World). u .m .acc) begun ∙ a .acc in
+    let ov : v .m .ov ≡ w .m .ov = ap (λ (u : World). u .m .ov) begun ∙ a .ov in
+    let pc : v .m .pc ≡ wrappedSum (w .m .pc) 1 = ap (λ (u : World). u .m .pc) begun in
+    let kept : v .«data» ≡ w .«data» = ap (λ (u : World). u .«data») begun in
+    let cnf : v .m .cnf ≡ w .m .cnf = ap (λ (u : World). u .m .cnf) begun ∙ a .cnf in
+    let r = repeated g d (c .operand) (c .still) 15 v (record {
+      at-subc = rw (cnf, pc, kept) (c .subc-second);
+      count = ap (λ (u : World). u .m .rptc) begun;
+      divisor = rw kept (c .divisor-there);
+    }) (o .rest-done) in
     let q = divides g d v (rw acc few) h (r .all-pass) in
     let end : runOf g 17 w .world ≡ worldAfter g 16 v = run-to g 17 17 w (omega arith) (c .not-refused) in
     record {
@@ -138,6 +145,6 @@ divides-by-repeat g d w few h c =
         remainder = ap (λ (u : World). highHalf (u .m .acc)) end ∙ q .remainder ∙ ap (λ (n : ℕ). n % d) acc;
         overflow = ap (λ (u : World). u .m .ov) end ∙ q .overflow ∙ ov;
       };
-      past-both-words = ap (λ (u : World). u .m .pc) end ∙ r .past ∙ ap (λ (pc : ℕ). wrappedSum pc 1) (b .pc) ∙ two-words (w .m .pc);
-      same-data = ap (λ (u : World). u .«data») end ∙ r .same ∙ b .same-data;
+      past-both-words = ap (λ (u : World). u .m .pc) end ∙ r .past ∙ ap (λ (p : ℕ). wrappedSum p 1) pc ∙ two-words (w .m .pc);
+      same-data = ap (λ (u : World). u .«data») end ∙ r .same ∙ kept;
     }

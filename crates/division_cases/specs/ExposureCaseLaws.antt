@@ -31,7 +31,7 @@ use Rattle.steps.specs.Stores.{writeOf, dataAfter, outputAfter}
 use Rattle.steps.specs.Pass.{readWord, wordsRead, effectOf, passedMachine, passedWrite, performed, planBy}
 use Rattle.steps.specs.Table.{checksOf, decodedAt, secondAddress, secondWord, notRepeatable, secondAbsent, tableFor, checkRows, fetchRows, encodingRows, instructionRows, repeatRows}
 use Rattle.steps.specs.Step.{pagePlan, planOf, afterStore, stepOf, runOf}
-use Rattle.stacking.specs.Stacking.{wordAhead, by-rptk, by-rpt}
+use Rattle.laws.specs.Repeating.{wordAhead, by-rptk, by-rpt}
 use Rattle.division.specs.Exposure.{direct, indirect}
 use Rattle.division_cases.specs.ExposureCases.{guideGiven, guideWorld, guideRun, limitGiven, limitWorld, limitRun, ExposureCases}
 

@@ -1,7 +1,10 @@
 -- definitions
 pub mod Laws
+pub mod Repeating
 -- proofs
 pub mod Steps
 pub mod Runs
 pub mod Repeats
+pub mod OperandLaws
+pub mod RepeatingLaws
 pub mod Windows

@@ -1,7 +1,7 @@
 -- Runs: proofs.
 use mathlib.Core.Path.{_≡_, refl, sym, _∙_, ap}
 use mathlib.Core.Bool.{Bool, true, false, false≢true}
-use Prim.Native.Nat.{ℕ, zero, suc, _+_, _<_}
+use Prim.Native.Nat.{ℕ, zero, suc, _+_, _≤_, _<_}
 use native.Mathlib.Nat.{zero-add}
 use native.Mathlib.Omega.{arith}
 use lib.ListN.{length}
@@ -124,3 +124,34 @@ module _ (g : Given) where
 
 pub runs-add : (g : Given) (a b : ℕ) (w : World) → RunsAdd g a b w
 runs-add g a b w = record { first-done = λ h. add-done g b a w h; first-refused = λ h. add-refused g b a w h }
+
+-- ---- a run that is not refused, step by step
+
+module _ (g : Given) where
+  pub run-ended : (w : World) → runOf g 0 w .world ≡ w
+  run-ended w = ap (λ (r : RunOutcome). r .world) (run-none g w)
+
+  pub record RunsOn (n : ℕ) (w : World) : Type 0 where
+    pub step-done : isDone (stepOf g w .answer) ≡ true
+    pub rest-done : isDone (runOf g n (stepOf g w .world) .answer) ≡ true
+    pub same-end : runOf g (suc n) w .world ≡ runOf g n (stepOf g w .world) .world
+
+  pub runs-on : (n : ℕ) (w : World) → isDone (runOf g (suc n) w .answer) ≡ true → RunsOn n w
+  runs-on n w h =
+      by-first g w
+      (λ d. let e = run-done g n w d in
+      record {
+        step-done = d;
+        rest-done = ap (λ (r : RunOutcome). isDone (r .answer)) (sym e) ∙ h;
+        same-end = ap (λ (r : RunOutcome). r .world) e;
+      })
+      (λ r. absurd (false≢true (sym r ∙ ap (λ (o : RunOutcome). isDone (o .answer)) (sym (run-refused g n w r)) ∙ h)))
+
+  -- the world that a run of n steps leaves, where a run as long or longer is not refused
+  pub run-to : (n most : ℕ) (w : World) → n ≤ most → isDone (runOf g most w .answer) ≡ true → runOf g n w .world ≡ worldAfter g n w
+  unfolding worldAfter
+  run-to zero most w h done = run-ended w
+  run-to (suc n) zero w h done = absurd (omega arith)
+  run-to (suc n) (suc most) w h done =
+      let o = runs-on most w done in
+      ap (λ (r : RunOutcome). r .world) (run-done g n w (o .step-done)) ∙ run-to n most (stepOf g w .world) (omega arith) (o .rest-done)

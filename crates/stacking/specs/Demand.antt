@@ -24,11 +24,14 @@ use Rattle.steps.specs.World.{World}
 use Rattle.steps.specs.Table.{decodedAt, secondWord}
 use Rattle.steps.specs.Step.{afterStore, stepOf, runOf, worldAfter}
 use Rattle.steps.specs.TableLaws.{step-world}
+use Rattle.laws.specs.Repeating.{wordAhead}
+use Rattle.laws.specs.OperandLaws.{operand-alike}
+use Rattle.laws.specs.Runs.{run-ended, RunsOn, runs-on, run-to}
 use Rattle.frame_sums.specs.Frames.{Pair, Accumulation, fromZero, productAdded, passed, stacked, Words}
 use Rattle.frame_sums.specs.FrameLaws.{passes-keep-ov, below-128, at-128}
-use Rattle.stacking.specs.Stacking.{pairsRead, wordAhead, Stacks, lastWorld, words, StaysZero, AtApac, Holds, HoldsAt128}
-use Rattle.stacking.specs.Passing.{RunsOn, runs-on, run-ended, operand-alike, accumulationOf, followed-follows, apac-works}
-use Rattle.stacking.specs.Passes.{plus, plus-is, Began, began, run-to, Passed, all-passed}
+use Rattle.stacking.specs.Stacking.{pairsRead, Stacks, lastWorld, words, StaysZero, AtApac, Holds, HoldsAt128}
+use Rattle.stacking.specs.Passing.{accumulationOf, followed-follows, apac-works}
+use Rattle.stacking.specs.Passes.{plus, plus-is, Began, began, Passed, all-passed}
 use Rattle.board.specs.Given.{Given}
 
 -- the final product add

@@ -11,15 +11,12 @@ use Rattle.answers.specs.Numbers.{isDone}
 use Rattle.answers.specs.NumberLaws.{done-is}
 use Rattle.instructions.specs.declared.Instruction.{Instruction}
 use Rattle.instructions.specs.declared.Instruction.the-variants as Family
-use Rattle.instructions.specs.declared.Modes.the-variants.{Rpt, Rptk}
-use Rattle.instructions.specs.declared.Decoded.the-variants.{Built, Nothing}
+use Rattle.instructions.specs.declared.Decoded.the-variants.{Built}
 use Rattle.pages.specs.declared.Operand.the-variants.{At}
-use Rattle.pages.specs.Traits.{traitsOf, modesTraits, multiplierTraits}
+use Rattle.pages.specs.Traits.{traitsOf, multiplierTraits}
 use Rattle.pages.specs.declared.Jump.the-variants.{Past}
-use Rattle.pages.specs.Passes.{followed, destination}
+use Rattle.pages.specs.Passes.{followed}
 use Rattle.pages.specs.Addressing.{addressed, addressOf}
-use Rattle.pages.specs.ModesPages.{RPT, RPTK}
-use Rattle.pages.specs.ModesRule.{modesRule}
 use Rattle.pages.specs.MultiplierPages.{APAC, MAC, MACD}
 use Rattle.pages.specs.MultiplierRule.{multiplierRule}
 use Rattle.pages.specs.Rules.{ruleOf}
@@ -34,9 +31,13 @@ use Rattle.steps.specs.World.{World}
 use Rattle.steps.specs.Table.{decodedAt, secondWord}
 use Rattle.steps.specs.Step.{afterStore, stepOf, runOf, worldAfter}
 use Rattle.steps.specs.TableLaws.{step-world}
+use Rattle.laws.specs.Repeating.{Repeats}
+use Rattle.laws.specs.RepeatingLaws.{repeat-begins}
+use Rattle.laws.specs.OperandLaws.{Alike, operand-alike}
+use Rattle.laws.specs.Runs.{runs-on}
 use Rattle.frame_sums.specs.Frames.{Pair, accumulated, passed, Every, Words}
-use Rattle.stacking.specs.Stacking.{pairFor, pairAt, pairsRead, Repeats, by-rptk, by-rpt, Accumulates, by-mac, by-macd, Sized}
-use Rattle.stacking.specs.Passing.{runs-on, run-goes-on, run-ended, Alike, operand-alike, accumulationOf, followed-follows, again, goes-past, mac-works, move-keeps}
+use Rattle.stacking.specs.Stacking.{pairFor, pairAt, pairsRead, Accumulates, by-mac, by-macd, Sized}
+use Rattle.stacking.specs.Passing.{accumulationOf, followed-follows, again, goes-past, mac-works, move-keeps}
 
 -- ---- words of 16 bits
 sized-set : (l : List ℕ) (j word : ℕ) → ((i : ℕ) → getD l i 0 < 2 ^ 16) → word < 2 ^ 16 → (i : ℕ) → getD (set l j word) i 0 < 2 ^ 16
@@ -69,17 +70,12 @@ pub record Began (w v : World) (k : ℕ) : Type 0 where
   pub same-data : v .«data» ≡ w .«data»
 
 module _ (g : Given) (w : World) where
-  repeats : (r : Instruction) (k : ℕ) → Repeats w r k → Began w (afterStore (performed (traitsOf r) r (secondWord r g (w .«data») (w .m)) g (w .«data») (w .m)) w) k
-  unfolding afterStore performed passedMachine passedWrite effectOf traitsOf modesTraits ruleOf modesRule RPT RPTK followed destination writeOf dataAfter wordsRead readWord accumulationOf
-  repeats _ _ (by-rptk k) =
-      let a = operand-alike (traitsOf (Family.Modes (Rptk k)) .operand) (w .m) in
-      record { accumulation = rw (a .acc, a .p, a .ov); ovm = a .ovm; pm = a .pm; cnf = a .cnf; rptc = refl; pc = rw (a .pc); same-data = refl }
-  repeats _ _ (by-rpt x) =
-      let a = operand-alike (traitsOf (Family.Modes (Rpt x)) .operand) (w .m) in
-      record { accumulation = rw (a .acc, a .p, a .ov); ovm = a .ovm; pm = a .pm; cnf = a .cnf; rptc = refl; pc = rw (a .pc); same-data = refl }
-
   pub began : (r : Instruction) (k : ℕ) → Repeats w r k → decodedAt g (w .«data») (w .m) ≡ Built r → isDone (stepOf g w .answer) ≡ true → Began w (stepOf g w .world) k
-  began r k gives is done = rw (step-world g w r is (done-is _ done)) (repeats r k gives)
+  unfolding accumulationOf
+  began r k gives is done =
+      let a = operand-alike (traitsOf r .operand) (w .m) in
+      rw (repeat-begins g w r k gives is (done-is _ done))
+      (record { accumulation = rw (a .acc, a .p, a .ov); ovm = a .ovm; pm = a .pm; cnf = a .cnf; rptc = refl; pc = refl; same-data = refl })
 
 -- ---- one pass
 pub record Went (g : Given) (w v : World) (pair : Pair) : Type 0 where
@@ -168,15 +164,6 @@ pub record Passed (g : Given) (n k j : ℕ) (w v : World) : Type 0 where
   pub words : Words (pairsRead g n w)
   pub rest-done : isDone (runOf g j v .answer) ≡ true
   pub same-end : runOf g (plus n j) w .world ≡ runOf g j v .world
-
--- it is the world that a run of n steps leaves, where a run as long or longer is not refused
-pub run-to : (g : Given) (n most : ℕ) (w : World) → n ≤ most → isDone (runOf g most w .answer) ≡ true → runOf g n w .world ≡ worldAfter g n w
-unfolding worldAfter
-run-to g zero most w h done = run-ended g w
-run-to g (suc n) zero w h done = absurd (omega arith)
-run-to g (suc n) (suc most) w h done =
-    let o = runs-on g most w done in
-    run-goes-on g n w (o .step-done) ∙ run-to g n most (stepOf g w .world) (omega arith) (o .rest-done)
 
 -- the next pass meets the same instruction
 again-there : (g : Given) (w v : World) (pair : Pair) (i : Instruction) → Went g w v pair → decodedAt g (w .«data») (w .m) ≡ Built i → v .m .pc ≡ w .m .pc → decodedAt g (v .«data») (v .m) ≡ Built i

@@ -10,17 +10,9 @@ use lib.Seq.{getD-set-other}
 use borrow.Author.Tests.{lt-ltb, le-ltb}
 use Rattle.alu.specs.Registers.{wrappedSum}
 use Rattle.machine.specs.declared.Machine.{Machine}
-use Rattle.answers.specs.Numbers.{isDone}
-use Rattle.operands.specs.declared.Address.the-variants as Mode
-use Rattle.operands.specs.declared.NextArp.{NextArp}
-use Rattle.operands.specs.declared.NextArp.the-variants as Next
-use Rattle.instructions.specs.declared.Decoded.the-variants.{Nothing}
-use Rattle.pages.specs.declared.Operand.{Operand}
-use Rattle.pages.specs.declared.Operand.the-variants as Operand
 use Rattle.pages.specs.declared.Jump.{Jump}
 use Rattle.pages.specs.declared.Jump.the-variants.{Past}
 use Rattle.pages.specs.Passes.{followed, destination}
-use Rattle.pages.specs.Addressing.{pointed, modified, addressed}
 use Rattle.pages.specs.MultiplierPages.{APAC, MAC}
 use Rattle.board.specs.Regions.{dataRegion, onChip, onChipRegion, moveAllowed, inRom, inProgramB0}
 use Rattle.board.specs.declared.Region.{Region}
@@ -29,60 +21,8 @@ use Rattle.board.specs.RegionFacts.{Lies}
 use Rattle.board.specs.RegionLaws.{region-lies, moves, program-b0}
 use Rattle.board.specs.Windows.{windowOf, programWord}
 use Rattle.board.specs.WindowLaws.{rom-word, b0-word}
-use Rattle.board.specs.Given.{Given}
-use Rattle.steps.specs.World.{World}
-use Rattle.steps.specs.Step.{stepOf, runOf}
+use Rattle.laws.specs.OperandLaws.{Alike}
 use Rattle.frame_sums.specs.Frames.{Accumulation, productAdded, accumulated}
-
--- ---- a run that is not refused, step by step
-pub record RunsOn (g : Given) (n : ℕ) (w : World) : Type 0 where
-  pub step-done : isDone (stepOf g w .answer) ≡ true
-  pub rest-done : isDone (runOf g n (stepOf g w .world) .answer) ≡ true
-  pub same-end : runOf g (suc n) w .world ≡ runOf g n (stepOf g w .world) .world
-
--- the steps after one that is done
-pub run-goes-on : (g : Given) (n : ℕ) (w : World) → isDone (stepOf g w .answer) ≡ true → runOf g (suc n) w .world ≡ runOf g n (stepOf g w .world) .world
-unfolding runOf
-run-goes-on g n w e = rw e
-
-pub runs-on : (g : Given) (n : ℕ) (w : World) → isDone (runOf g (suc n) w .answer) ≡ true → RunsOn g n w
-unfolding runOf
-runs-on g n w h = by (isDone (stepOf g w .answer)) refl h
-  where
-    by : (t : Bool) → isDone (stepOf g w .answer) ≡ t → isDone (runOf g (suc n) w .answer) ≡ true → RunsOn g n w
-    by true e h = record { step-done = e; rest-done = rw e at h; same-end = run-goes-on g n w e }
-    by false e h = absurd (false≢true (sym e ∙ (rw e at h)))
-
-pub run-ended : (g : Given) (w : World) → runOf g 0 w .world ≡ w
-unfolding runOf
-run-ended g w = refl
-
--- ---- the cells that matter
-pub record Alike (m n : Machine) : Type 0 where
-  pub acc : n .acc ≡ m .acc
-  pub p : n .p ≡ m .p
-  pub ov : n .ov ≡ m .ov
-  pub ovm : n .ovm ≡ m .ovm
-  pub pm : n .pm ≡ m .pm
-  pub cnf : n .cnf ≡ m .cnf
-  pub pc : n .pc ≡ m .pc
-  pub rptc : n .rptc ≡ m .rptc
-
-alike : (m : Machine) → Alike m m
-alike m = record { acc = refl; p = refl; ov = refl; ovm = refl; pm = refl; cnf = refl; pc = refl; rptc = refl }
-
-pointed-alike : (next : NextArp) (m n : Machine) → Alike m n → Alike m (pointed next n)
-unfolding pointed
-pointed-alike Next.Same m n a = a
-pointed-alike (Next.To arp) m n a = record { acc = a .acc; p = a .p; ov = a .ov; ovm = a .ovm; pm = a .pm; cnf = a .cnf; pc = a .pc; rptc = a .rptc }
-
--- an operand's modification touches none of them
-pub operand-alike : (o : Operand) (m : Machine) → Alike m (addressed o m)
-unfolding addressed modified
-operand-alike Operand.Nothing m = alike m
-operand-alike (Operand.At (Mode.Direct offset)) m = alike m
-operand-alike (Operand.At (Mode.Indirect i)) m =
-    pointed-alike (i .next) m _ (record { acc = refl; p = refl; ov = refl; ovm = refl; pm = refl; cnf = refl; pc = refl; rptc = refl })
 
 -- ---- what follows a pass
 unfoldable pub accumulationOf : Machine → Accumulation

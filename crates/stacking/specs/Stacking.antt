@@ -3,28 +3,25 @@ use mathlib.Core.Path.{_≡_}
 use mathlib.Core.Bool.{true}
 use mathlib.Core.List.{List, [], _∷_}
 use mathlib.Core.Logic.{_↔_}
-use Prim.Native.Nat.{ℕ, zero, suc, _+_, _%_, _^_, _≤_, _<_}
+use Prim.Native.Nat.{ℕ, zero, suc, _+_, _^_, _≤_, _<_}
 use lib.ListN.{getD}
 use Rattle.alu.specs.Word.{signed}
-use Rattle.alu.specs.Registers.{wrappedSum}
 use Rattle.answers.specs.Numbers.{isDone}
 use Rattle.instructions.specs.declared.Instruction.{Instruction}
 use Rattle.instructions.specs.declared.Instruction.the-variants as Family
 use Rattle.operands.specs.declared.Address.{Address}
-use Rattle.instructions.specs.declared.Modes.the-variants.{Rpt, Rptk}
 use Rattle.instructions.specs.declared.Multiplier.the-variants.{Mac, Macd, Apac}
 use Rattle.instructions.specs.declared.Decoded.{Decoded}
 use Rattle.instructions.specs.declared.Decoded.the-variants.{Built, Unbuilt, Nothing}
 use Rattle.instructions.specs.Decode.{decodeOf}
-use Rattle.pages.specs.declared.Operand.the-variants.{At}
 use Rattle.pages.specs.Traits.{traitsOf}
-use Rattle.pages.specs.Addressing.{addressOf}
 use Rattle.board.specs.Windows.{programWord}
 use Rattle.board.specs.Given.{Given}
 use Rattle.steps.specs.Pass.{wordsRead}
 use Rattle.steps.specs.World.{World}
 use Rattle.steps.specs.Table.{decodedAt, secondWord}
 use Rattle.steps.specs.Step.{stepOf, runOf}
+use Rattle.laws.specs.Repeating.{wordAhead, Repeats}
 use Rattle.frame_sums.specs.Frames.{Pair, Near, exactSum, AllLeast}
 
 -- ---- the words that the passes read, taken from the run itself
@@ -47,15 +44,6 @@ pairsRead g zero w = []
 pairsRead g (suc n) w = pairAt g w ∷ pairsRead g n (stepOf g w .world)
 
 -- ---- what stands at PC
-
--- the program word at `ahead` words past PC
-unfoldable pub wordAhead : Given → ℕ → World → ℕ
-wordAhead g ahead w = programWord (w .m .cnf) (wrappedSum (w .m .pc) ahead) (g .rom) (w .«data»)
-
--- "an RPTK or an RPT that gives" a count
-pub data Repeats (w : World) : Instruction → ℕ → Type 0 where
-  by-rptk : (k : ℕ) → Repeats w (Family.Modes (Rptk k)) k
-  by-rpt : (a : Address) → Repeats w (Family.Modes (Rpt a)) (getD (w .«data») (addressOf (At a) (w .m)) 0 % 2 ^ 8)
 
 -- "one MAC or MACD (direct or indirect, any modification)"
 pub data Accumulates : Instruction → Type 0 where

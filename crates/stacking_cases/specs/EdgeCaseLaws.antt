@@ -41,7 +41,8 @@ use Rattle.operands.specs.declared.NextArp.the-variants.{Same}
 use Rattle.instructions.specs.declared.Modes.the-variants.{Rpt}
 use Rattle.instructions.specs.declared.Multiplier.the-variants.{Macd}
 use Rattle.frame_sums.specs.Frames.{exactSum}
-use Rattle.stacking.specs.Stacking.{pairFor, pairAt, pairsRead, wordAhead, words, by-rpt, by-macd, Stacks, Holds}
+use Rattle.laws.specs.Repeating.{wordAhead, by-rpt}
+use Rattle.stacking.specs.Stacking.{pairFor, pairAt, pairsRead, words, by-macd, Stacks, Holds}
 use Rattle.stacking.specs.Demand.{demand}
 use Rattle.stacking_cases.specs.EdgeCase.{edgeRom, edgeData, edgeMachine, edgeWorld, edgeRun, EdgeCase}
 use Rattle.stacking_cases.specs.SizedLaws.{allSized, sized-by}

@@ -20,7 +20,8 @@ use Rattle.operands.specs.declared.Address.the-variants.{Direct}
 use Rattle.instructions.specs.declared.Modes.the-variants.{Rptk}
 use Rattle.instructions.specs.declared.Multiplier.the-variants.{Mac}
 use Rattle.steps.specs.World.{World}
-use Rattle.stacking.specs.Stacking.{wordAhead, by-rptk, by-mac, Stacks, lastWorld}
+use Rattle.laws.specs.Repeating.{wordAhead, by-rptk}
+use Rattle.stacking.specs.Stacking.{by-mac, Stacks, lastWorld}
 use Rattle.stacking.specs.Demand.{demand}
 use Rattle.stacking_cases.specs.Cases.{romWith, worldWith, runWith}
 use Rattle.stacking_cases.specs.CaseLaws.{computed}

@@ -1,0 +1,44 @@
+-- The step of an RPT or RPTK that gives a count: proof.
+use mathlib.Core.Path.{_≡_}
+use Prim.Native.Nat.{ℕ}
+use Rattle.alu.specs.Registers.{wrappedSum}
+use Rattle.machine.specs.Cells.{withPc, withMid, withRptc}
+use Rattle.answers.specs.declared.Answer.the-variants.{Done}
+use Rattle.instructions.specs.declared.Instruction.{Instruction}
+use Rattle.instructions.specs.declared.Instruction.the-variants as Family
+use Rattle.instructions.specs.declared.Modes.the-variants.{Rpt, Rptk}
+use Rattle.instructions.specs.declared.Decoded.the-variants.{Built}
+use Rattle.pages.specs.Traits.{traitsOf, modesTraits}
+use Rattle.pages.specs.Addressing.{addressed}
+use Rattle.pages.specs.Passes.{followed, destination}
+use Rattle.pages.specs.ModesPages.{RPT, RPTK}
+use Rattle.pages.specs.ModesRule.{modesRule}
+use Rattle.pages.specs.Rules.{ruleOf}
+use Rattle.board.specs.Given.{Given}
+use Rattle.steps.specs.Stores.{writeOf, dataAfter, outputAfter}
+use Rattle.steps.specs.Pass.{readWord, wordsRead, effectOf, passedMachine, passedWrite, performed}
+use Rattle.steps.specs.World.{World}
+use Rattle.steps.specs.Table.{decodedAt, secondWord}
+use Rattle.steps.specs.Step.{afterStore, stepOf}
+use Rattle.steps.specs.TableLaws.{step-world}
+use Rattle.laws.specs.Repeating.{Repeats, by-rptk, by-rpt}
+use Rattle.laws.specs.OperandLaws.{operand-alike}
+
+-- the operand is modified, RPTC takes the count, MID becomes 0 and PC moves past the word; nothing is stored
+abbrev pub repeatBegun : World → Instruction → ℕ → World
+repeatBegun w r k = record {
+  m = withPc (withMid (withRptc (addressed (traitsOf r .operand) (w .m)) k) 0) (wrappedSum (w .m .pc) 1);
+  «data» = w .«data»;
+  output = w .output;
+}
+
+module _ (g : Given) (w : World) where
+  performs : (r : Instruction) (k : ℕ) → Repeats w r k
+      → afterStore (performed (traitsOf r) r (secondWord r g (w .«data») (w .m)) g (w .«data») (w .m)) w ≡ repeatBegun w r k
+  unfolding afterStore performed passedMachine passedWrite effectOf traitsOf modesTraits ruleOf modesRule RPT RPTK followed destination writeOf dataAfter outputAfter wordsRead readWord
+  performs _ _ (by-rptk k) = rw (operand-alike (traitsOf (Family.Modes (Rptk k)) .operand) (w .m) .pc)
+  performs _ _ (by-rpt a) = rw (operand-alike (traitsOf (Family.Modes (Rpt a)) .operand) (w .m) .pc)
+
+  pub repeat-begins : (r : Instruction) (k : ℕ) → Repeats w r k → decodedAt g (w .«data») (w .m) ≡ Built r → stepOf g w .answer ≡ Done
+      → stepOf g w .world ≡ repeatBegun w r k
+  repeat-begins r k gives is done = rw (step-world g w r is done) (performs r k gives)
