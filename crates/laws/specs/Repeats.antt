@@ -41,7 +41,6 @@ use Rattle.pages.specs.TransfersPages.{DMOV, IN, OUT}
 use Rattle.instructions.specs.declared.Decoded.the-variants.{Built}
 use Rattle.operands.specs.declared.NextArp.{NextArp}
 use Rattle.operands.specs.declared.NextArp.the-variants.{Same, To}
-use Rattle.operands.specs.declared.Indirect.{Indirect}
 use Rattle.operands.specs.declared.Address.the-variants as Mode
 use Rattle.pages.specs.declared.Effect.{Effect}
 use Rattle.pages.specs.declared.Jump.the-variants as Jump

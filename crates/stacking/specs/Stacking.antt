@@ -15,7 +15,6 @@ use Rattle.instructions.specs.declared.Decoded.{Decoded}
 use Rattle.instructions.specs.declared.Decoded.the-variants.{Built, Unbuilt, Nothing}
 use Rattle.instructions.specs.Decode.{decodeOf}
 use Rattle.pages.specs.Traits.{traitsOf}
-use Rattle.board.specs.Windows.{programWord}
 use Rattle.board.specs.Given.{Given}
 use Rattle.steps.specs.Pass.{wordsRead}
 use Rattle.steps.specs.World.{World}
