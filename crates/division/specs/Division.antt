@@ -10,27 +10,22 @@ use Rattle.instructions.specs.declared.Instruction.{Instruction}
 use Rattle.instructions.specs.declared.Instruction.the-variants as Family
 use Rattle.instructions.specs.declared.Accumulator.the-variants.{Subc}
 use Rattle.instructions.specs.declared.Decoded.the-variants.{Built}
-use Rattle.pages.specs.Traits.{traitsOf}
 use Rattle.board.specs.Given.{Given}
-use Rattle.steps.specs.Pass.{wordsRead}
 use Rattle.steps.specs.World.{World}
-use Rattle.steps.specs.Table.{decodedAt, secondWord}
+use Rattle.steps.specs.Table.{decodedAt}
 use Rattle.steps.specs.Step.{stepOf, worldAfter}
+use Rattle.laws.specs.Laws.{wordsAt}
 
 -- the instruction, with its operand
 abbrev pub subc : Address → Instruction
 subc operand = Family.Accumulator (Subc operand)
-
--- the data word that a pass of an instruction reads
-abbrev pub wordRead : Given → World → Instruction → ℕ
-wordRead g w i = wordsRead (traitsOf i) (secondWord i g (w .«data») (w .m)) g (w .«data») (w .m) .operand
 
 -- the next step is a pass of SUBC, with any operand; it is not refused, and reads the word d
 pub record SubcPass (g : Given) (d : ℕ) (w : World) : Type 0 where
   pub operand : Address
   pub at-subc : decodedAt g (w .«data») (w .m) ≡ Built (subc operand)
   pub not-refused : isDone (stepOf g w .answer) ≡ true
-  pub reads : wordRead g w (subc operand) ≡ d
+  pub reads : wordsAt g w (subc operand) .operand ≡ d
 
 -- so is each of the next n steps, whether they are repeated or stand one after another
 abbrev pub SubcPasses : Given → ℕ → ℕ → World → Type 0

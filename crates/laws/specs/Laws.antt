@@ -15,6 +15,7 @@ use Rattle.instructions.specs.declared.Instruction.{Instruction}
 use Rattle.instructions.specs.declared.Decoded.the-variants.{Built, Nothing}
 use Rattle.pages.specs.Traits.{traitsOf}
 use Rattle.pages.specs.Addressing.{addressOf}
+use Rattle.pages.specs.declared.Words.{Words}
 use Rattle.pages.specs.declared.Effect.{Effect}
 use Rattle.answers.specs.declared.Answer.{Answer}
 use Rattle.answers.specs.declared.Answer.the-variants.{Done}
@@ -27,7 +28,7 @@ use Rattle.steps.specs.declared.Write.{Write}
 use Rattle.steps.specs.Rows.{Row, row, firstGiven, NoneHolds}
 use Rattle.steps.specs.Refusals.{wrongPort, dataAbsent}
 use Rattle.steps.specs.Stores.{dataAfter, outputAfter}
-use Rattle.steps.specs.Pass.{effectOf, passedWrite}
+use Rattle.steps.specs.Pass.{wordsRead, effectOf, passedWrite}
 use Rattle.steps.specs.World.{World, RunOutcome}
 use Rattle.steps.specs.Table.{decodedAt, secondWord, notRepeatable, secondAbsent, tableFor, checksOf}
 use Rattle.steps.specs.Step.{stepOf, runOf, rowsOf, worldAfter}
@@ -142,6 +143,10 @@ pub record RunsAdd (g : Given) (a b : ℕ) (w : World) : Type 0 where
   pub first-refused : isDone (runOf g a w .answer) ≡ false → runOf g (a + b) w ≡ runOf g a w
 
 -- ---- a repeated instruction
+
+-- the words that a pass of an instruction reads
+abbrev pub wordsAt : Given → World → Instruction → Words
+wordsAt g w i = wordsRead (traitsOf i) (secondWord i g (w .«data») (w .m)) g (w .«data») (w .m)
 
 -- what the rule of an instruction makes of a world, and what it stores
 abbrev pub effectAt : Given → World → Instruction → Effect

@@ -1,15 +1,12 @@
 -- The step of an RPT or RPTK that gives a count: proof.
 use mathlib.Core.Path.{_≡_}
 use Prim.Native.Nat.{ℕ}
-use Rattle.alu.specs.Registers.{wrappedSum}
-use Rattle.machine.specs.Cells.{withPc, withMid, withRptc}
 use Rattle.answers.specs.declared.Answer.the-variants.{Done}
 use Rattle.instructions.specs.declared.Instruction.{Instruction}
 use Rattle.instructions.specs.declared.Instruction.the-variants as Family
 use Rattle.instructions.specs.declared.Modes.the-variants.{Rpt, Rptk}
 use Rattle.instructions.specs.declared.Decoded.the-variants.{Built}
 use Rattle.pages.specs.Traits.{traitsOf, modesTraits}
-use Rattle.pages.specs.Addressing.{addressed}
 use Rattle.pages.specs.Passes.{followed, destination}
 use Rattle.pages.specs.ModesPages.{RPT, RPTK}
 use Rattle.pages.specs.ModesRule.{modesRule}
@@ -21,16 +18,8 @@ use Rattle.steps.specs.World.{World}
 use Rattle.steps.specs.Table.{decodedAt, secondWord}
 use Rattle.steps.specs.Step.{afterStore, stepOf}
 use Rattle.steps.specs.TableLaws.{step-world}
-use Rattle.laws.specs.Repeating.{Repeats, by-rptk, by-rpt}
+use Rattle.laws.specs.Repeating.{Repeats, by-rptk, by-rpt, repeatBegun}
 use Rattle.laws.specs.OperandLaws.{operand-alike}
-
--- the operand is modified, RPTC takes the count, MID becomes 0 and PC moves past the word; nothing is stored
-abbrev pub repeatBegun : World → Instruction → ℕ → World
-repeatBegun w r k = record {
-  m = withPc (withMid (withRptc (addressed (traitsOf r .operand) (w .m)) k) 0) (wrappedSum (w .m .pc) 1);
-  «data» = w .«data»;
-  output = w .output;
-}
 
 module _ (g : Given) (w : World) where
   performs : (r : Instruction) (k : ℕ) → Repeats w r k

@@ -14,12 +14,11 @@ use Rattle.instructions.specs.declared.Multiplier.the-variants.{Mac, Macd, Apac
 use Rattle.instructions.specs.declared.Decoded.{Decoded}
 use Rattle.instructions.specs.declared.Decoded.the-variants.{Built, Unbuilt, Nothing}
 use Rattle.instructions.specs.Decode.{decodeOf}
-use Rattle.pages.specs.Traits.{traitsOf}
 use Rattle.board.specs.Given.{Given}
-use Rattle.steps.specs.Pass.{wordsRead}
 use Rattle.steps.specs.World.{World}
-use Rattle.steps.specs.Table.{decodedAt, secondWord}
+use Rattle.steps.specs.Table.{decodedAt}
 use Rattle.steps.specs.Step.{stepOf, runOf}
+use Rattle.laws.specs.Laws.{wordsAt}
 use Rattle.laws.specs.Repeating.{wordAhead, Repeats}
 use Rattle.frame_sums.specs.Frames.{Pair, Near, exactSum, AllLeast}
 
@@ -28,8 +27,8 @@ use Rattle.frame_sums.specs.Frames.{Pair, Near, exactSum, AllLeast}
 -- the data word and the program word that the next step reads
 unfoldable pub pairFor : Decoded → Given → World → Pair
 pairFor (Built i) g w = record {
-  dataWord = wordsRead (traitsOf i) (secondWord i g (w .«data») (w .m)) g (w .«data») (w .m) .operand;
-  programWord = wordsRead (traitsOf i) (secondWord i g (w .«data») (w .m)) g (w .«data») (w .m) .table;
+  dataWord = wordsAt g w i .operand;
+  programWord = wordsAt g w i .table;
 }
 pairFor Unbuilt g w = record { dataWord = 0; programWord = 0 }
 pairFor Nothing g w = record { dataWord = 0; programWord = 0 }
