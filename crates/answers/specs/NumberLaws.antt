@@ -6,7 +6,7 @@ use Prim.Native.Nat.{ℕ, _<_}
 use lib.Dec.{eqb, ltb}
 use borrow.Author.Tests.{eqb-true, eq-eqb, ltb-true}
 use Rattle.answers.specs.declared.Answer.{Answer}
-use Rattle.answers.specs.declared.Answer.the-variants.{Done, CellOutOfRange, SlicesUnfit, NoEncoding, NotBuilt, ProgramAbsent, DataAbsent, NotRepeatable, WrongPort, OutputFull, FileShort, FileVersion, FileRules, FileNoRoom}
+use Rattle.answers.specs.declared.Answer.the-variants.{Done, CellOutOfRange, SlicesUnfit, NoEncoding, NotBuilt, ProgramAbsent, DataAbsent, NotRepeatable, WrongPort, OutputFull, InputDry, FileShort, FileVersion, FileRules, FileNoRoom}
 use Rattle.answers.specs.Numbers.{numberOf, isDone}
 
 -- the first answer of a list that has the number n
@@ -27,6 +27,7 @@ answers =
     ∷ NotRepeatable
     ∷ WrongPort
     ∷ OutputFull
+    ∷ InputDry
     ∷ FileShort
     ∷ FileVersion
     ∷ FileRules
@@ -48,6 +49,7 @@ back DataAbsent = refl
 back NotRepeatable = refl
 back WrongPort = refl
 back OutputFull = refl
+back InputDry = refl
 back FileShort = refl
 back FileVersion = refl
 back FileRules = refl

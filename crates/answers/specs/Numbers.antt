@@ -3,7 +3,7 @@ use mathlib.Core.Bool.{Bool}
 use Prim.Native.Nat.{ℕ}
 use lib.Dec.{eqb}
 use Rattle.answers.specs.declared.Answer.{Answer}
-use Rattle.answers.specs.declared.Answer.the-variants.{Done, CellOutOfRange, SlicesUnfit, NoEncoding, NotBuilt, ProgramAbsent, DataAbsent, NotRepeatable, WrongPort, OutputFull, FileShort, FileVersion, FileRules, FileNoRoom}
+use Rattle.answers.specs.declared.Answer.the-variants.{Done, CellOutOfRange, SlicesUnfit, NoEncoding, NotBuilt, ProgramAbsent, DataAbsent, NotRepeatable, WrongPort, OutputFull, InputDry, FileShort, FileVersion, FileRules, FileNoRoom}
 
 abbrev pub numberOf : Answer → ℕ
 -- "step or run done"
@@ -26,6 +26,8 @@ numberOf NotRepeatable = 7
 numberOf WrongPort = 9
 -- "OUT with the output slice full"
 numberOf OutputFull = 10
+-- "input port dry" (document 02, request 2)
+numberOf InputDry = 11
 -- "run file shorter than 16 bytes"
 numberOf FileShort = 20
 -- "version not 1"

@@ -1,7 +1,7 @@
 ghost use mathlib.Core.Path.{_≡_};
 ghost use Rattle.answers.specs.Numbers.{numberOf, isDone};
 
-// The answers of document 01, "Numbers that come back"; specs/Numbers.antt has when each is given.
+// The answers of document 01, "Numbers that come back", and those that document 02 adds; specs/Numbers.antt has when each is given.
 pub enum Answer {
     Done,
     CellOutOfRange,
@@ -13,6 +13,7 @@ pub enum Answer {
     NotRepeatable,
     WrongPort,
     OutputFull,
+    InputDry,
     FileShort,
     FileVersion,
     FileRules,
@@ -34,6 +35,7 @@ pub fn number(a: Answer) -> u8
         Answer::NotRepeatable => 7,
         Answer::WrongPort => 9,
         Answer::OutputFull => 10,
+        Answer::InputDry => 11,
         Answer::FileShort => 20,
         Answer::FileVersion => 21,
         Answer::FileRules => 22,

@@ -1,6 +1,6 @@
 -- Laws of parts, of check 2 and of the page store.
 use mathlib.Core.Path.{_≡_, refl, ap, _∙_}
-use mathlib.Core.Bool.{Bool, true, false, _&&_}
+use mathlib.Core.Bool.{Bool, true, false, _&&_, false≢true}
 use mathlib.Core.List.{List, [], _∷_, append-assoc}
 use Prim.Native.Nat.{ℕ, zero, suc, _+_, _*_, _-_, _/_, _%_, _≤_, _<_, min}
 use native.Mathlib.Omega.{arith}
@@ -12,7 +12,7 @@ use denote.Ref.{RefT, ptr, now}
 use borrow.Author.Tests.{le-leb, lt-leb, leb-true, leb-false, eqb-true}
 use borrow.Rule.Slice.PartMut.{mid-len, post-is, put-same, set-mid-at, same-len-mid, take-put, drop-put}
 use Rattle.basic_laws.specs.Tests.{both-hold}
-use Rattle.board.specs.Slices.{memoriesFit, portFits, slicesFit, partStart, dataPagePart, dataPageStored}
+use Rattle.board.specs.Slices.{memoriesFit, portFits, portSpent, slicesFit, partStart, dataPagePart, dataPageStored}
 use Rattle.machine.specs.declared.Machine.{Machine}
 use Rattle.board.specs.SliceFacts.{MemoriesFit, PortFits, SlicesFit}
 use Rattle.board.specs.DataPage.{count, dataPageLent, dataPageWritten, rejoined}
@@ -129,3 +129,24 @@ slices-fit m rom d input outputLength h =
     let p = both-hold (memoriesFit rom d && portFits (length input) (m .«input_cursor»)) _ h in
     let q = both-hold (memoriesFit rom d) _ (p .0) in
     record { memories = memories-fit rom d (q .0); input-port = port-fits _ _ (q .1); output-port = port-fits _ _ (p .1) }
+
+-- a longer input slice fits too, up to its largest size
+pub longer-fits : (m : Machine) (rom d input longer : List ℕ) (outputLength : ℕ) → length input ≤ length longer → length longer ≤ 1024
+    → slicesFit m rom d input outputLength ≡ true → slicesFit m rom d longer outputLength ≡ true
+unfolding slicesFit portFits
+longer-fits m rom d input longer outputLength h most fits =
+    let past = slices-fit m rom d input outputLength fits .input-port .not-past in
+    let p = both-hold (memoriesFit rom d && portFits (length input) (m .«input_cursor»)) _ fits in
+    let q = both-hold (memoriesFit rom d) _ (p .0) in
+    rw (q .0, le-leb _ _ most, le-leb (m .«input_cursor») (length longer) (omega (arith, past, h)), p .1)
+
+-- a port that is used and not spent has words left
+pub words-left : (used : Bool) (size cursor : ℕ) → used && portSpent size cursor ≡ false → used ≡ true → cursor < size
+unfolding portSpent
+words-left true size cursor h e = leb-false _ _ h
+words-left false size cursor h e = absurd (false≢true e)
+
+pub none-left : (used : Bool) (size cursor : ℕ) → used && portSpent size cursor ≡ true → size ≤ cursor
+unfolding portSpent
+none-left true size cursor h = leb-true _ _ h
+none-left false size cursor h = absurd (false≢true h)

@@ -16,7 +16,7 @@ memoriesFit rom «data» = eqb (length rom) 4096 && eqb (length «data») 4096
 unfoldable pub portFits : ℕ → ℕ → Bool
 portFits size cursor = leb size 1024 && leb cursor size
 
--- "An IN from a port run dry"; "OUT with the output slice full"
+-- nothing is left of a port's slice: "input port dry" (document 02, request 2); "OUT with the output slice full"
 unfoldable pub portSpent : ℕ → ℕ → Bool
 portSpent size cursor = leb size cursor
 

@@ -18,7 +18,7 @@ use Rattle.pages.specs.Addressing.{addressOf}
 use Rattle.pages.specs.declared.Words.{Words}
 use Rattle.pages.specs.declared.Effect.{Effect}
 use Rattle.answers.specs.declared.Answer.{Answer}
-use Rattle.answers.specs.declared.Answer.the-variants.{Done}
+use Rattle.answers.specs.declared.Answer.the-variants.{Done, InputDry}
 use Rattle.answers.specs.Numbers.{numberOf, isDone}
 use Rattle.board.specs.Regions.{inRom, inProgramB0, programPresent}
 use Rattle.board.specs.Slices.{slicesFit}
@@ -26,7 +26,7 @@ use Rattle.board.specs.Windows.{windowStart}
 use Rattle.board.specs.Given.{Given}
 use Rattle.steps.specs.declared.Write.{Write}
 use Rattle.steps.specs.Rows.{Row, row, firstGiven, NoneHolds}
-use Rattle.steps.specs.Refusals.{wrongPort, dataAbsent}
+use Rattle.steps.specs.Refusals.{wrongPort, dataAbsent, inputDry}
 use Rattle.steps.specs.Stores.{dataAfter, outputAfter}
 use Rattle.steps.specs.Pass.{wordsRead, effectOf, passedWrite}
 use Rattle.steps.specs.World.{World, RunOutcome}
@@ -41,9 +41,9 @@ RefusedUnchanged = (g : Given) (w : World) → isDone (stepOf g w .answer) ≡ f
 
 -- ---- the answers
 
--- the numbers of a step and of a run in the table "Numbers that come back", without 8, which is retired
+-- the numbers of a step and of a run in the table "Numbers that come back", without 8, which is retired, and with 11
 unfoldable pub stepNumbers : List ℕ
-stepNumbers = 0 ∷ 1 ∷ 2 ∷ 3 ∷ 4 ∷ 5 ∷ 6 ∷ 7 ∷ 9 ∷ 10 ∷ []
+stepNumbers = 0 ∷ 1 ∷ 2 ∷ 3 ∷ 4 ∷ 5 ∷ 6 ∷ 7 ∷ 9 ∷ 10 ∷ 11 ∷ []
 
 -- n is one of the numbers
 unfoldable pub isAmong : ℕ → List ℕ → Bool
@@ -95,6 +95,21 @@ PortBeforeData = (g : Given) (w : World) (i : Instruction) → Meets g w i
     → wrongPort (traitsOf i .port) ≡ true → dataAbsent (traitsOf i) (addressOf (traitsOf i .operand) (w .m)) (w .m) ≡ true
     → numberOf (stepOf g w .answer) ≡ 9
 
+-- 9, 11: an IN from a port other than 0, with the input dry
+abbrev pub PortBeforeDry : Type 0
+PortBeforeDry = (g : Given) (w : World) (i : Instruction) → Meets g w i
+    → notRepeatable (w .m) i ≡ false → secondAbsent (w .m) i ≡ false
+    → wrongPort (traitsOf i .port) ≡ true → inputDry (traitsOf i) (length (g .input)) (w .m) ≡ true
+    → numberOf (stepOf g w .answer) ≡ 9
+
+-- 6, 11: an IN to an address that is absent, with the input dry
+abbrev pub DataBeforeDry : Type 0
+DataBeforeDry = (g : Given) (w : World) (i : Instruction) → Meets g w i
+    → notRepeatable (w .m) i ≡ false → secondAbsent (w .m) i ≡ false
+    → wrongPort (traitsOf i .port) ≡ false → dataAbsent (traitsOf i) (addressOf (traitsOf i .operand) (w .m)) (w .m) ≡ true
+    → inputDry (traitsOf i) (length (g .input)) (w .m) ≡ true
+    → numberOf (stepOf g w .answer) ≡ 6
+
 -- "5 for the first word, 3": of the table alone, since no word stands at an absent address
 abbrev pub PresenceBeforeEncoding : Type 0
 PresenceBeforeEncoding = (g : Given) («data» : List ℕ) (outputLength : ℕ) (m : Machine) → inRange m ≡ true → slicesFit m (g .rom) «data» (g .input) outputLength ≡ true
@@ -141,6 +156,31 @@ pub record RunsAdd (g : Given) (a b : ℕ) (w : World) : Type 0 where
   pub first-done : isDone (runOf g a w .answer) ≡ true
       → runOf g (a + b) w ≡ continued a (runOf g b (runOf g a w .world))
   pub first-refused : isDone (runOf g a w .answer) ≡ false → runOf g (a + b) w ≡ runOf g a w
+
+-- ---- a run that a dry port stopped (document 02, request 2)
+
+-- what a call is given, with further words behind those of the input
+abbrev pub withFurther : Given → List ℕ → Given
+withFurther g further = record { rom = g .rom; input = g .input ++ further }
+
+-- "A run continued so, on its unused budget and with the earlier words in front, equals the run that had all words from the start." It does whatever ended the
+-- first run, and though the further words are none. All words together are at most 1,024: where they are more, check 2 refuses the longer run (ruling D2).
+abbrev pub RunContinued : Type 0
+RunContinued = (g : Given) (further : List ℕ) (budget : ℕ) (w : World) → length (g .input ++ further) ≤ 1024
+    → runOf (withFurther g further) budget w
+    ≡ continued (runOf g budget w .steps) (runOf (withFurther g further) (budget - runOf g budget w .steps) (runOf g budget w .world))
+
+-- "A dry port must stop the run where it is .. so that the operator can supply the remaining words and go on from the same state"
+pub record StoppedDry (g : Given) (budget : ℕ) (w : World) : Type 0 where
+  -- some of the budget is left
+  pub unused : runOf g budget w .steps < budget
+  -- without a further word it is dry again at once
+  pub dry-again : (n : ℕ) → runOf g (suc n) (runOf g budget w .world) ≡ record { world = runOf g budget w .world; steps = 0; answer = InputDry }
+  -- and with one it is not
+  pub dry-no-more : (word : ℕ) (others : List ℕ) → stepOf (withFurther g (word ∷ others)) (runOf g budget w .world) .answer ≡ InputDry → ⊥
+
+abbrev pub RunStoppedDry : Type 0
+RunStoppedDry = (g : Given) (budget : ℕ) (w : World) → runOf g budget w .answer ≡ InputDry → StoppedDry g budget w
 
 -- ---- a repeated instruction
 

@@ -7,4 +7,5 @@ pub mod Runs
 pub mod Repeats
 pub mod OperandLaws
 pub mod RepeatingLaws
+pub mod Continued
 pub mod Windows

@@ -54,7 +54,7 @@ use Rattle.pages.specs.declared.Words.{Words}
 use Rattle.pages.specs.Rules.{ruleOf}
 use Rattle.board.specs.Slices.{slicesFit}
 use Rattle.board.specs.Given.{Given}
-use Rattle.steps.specs.Refusals.{dataAbsent, tableAbsent, outputFull, passRows, accessRows, restRows}
+use Rattle.steps.specs.Refusals.{dataAbsent, inputDry, tableAbsent, outputFull, passRows, accessRows, restRows}
 use Rattle.steps.specs.Stores.{dataAfter, outputAfter}
 use Rattle.steps.specs.Pass.{wordsRead, effectOf, passedMachine, passedWrite, performed}
 use Rattle.steps.specs.World.{World}
@@ -166,13 +166,12 @@ branches-counted (Branches.Bnv i) before m pma n pc h = absurd (false≢true h)
 branches-counted (Branches.Call i) before m pma n pc h = absurd (false≢true h)
 branches-counted Branches.Ret before m pma n pc h = absurd (false≢true h)
 
-transfers-counted : (i : Transfers) (m : Machine) (w : ℕ) (dry : Bool) (next : ℕ) (n pc : ℕ) → transfersTraits i .repeatable ≡ true
-    → transfersRule i (countedAt m n pc) w dry next ≡ uncounted (transfersRule i m w dry next) n pc
+transfers-counted : (i : Transfers) (m : Machine) (w next : ℕ) (n pc : ℕ) → transfersTraits i .repeatable ≡ true
+    → transfersRule i (countedAt m n pc) w next ≡ uncounted (transfersRule i m w next) n pc
 unfolding transfersTraits transfersRule DMOV IN OUT
-transfers-counted (Transfers.Dmov a) m w dry next n pc h = refl
-transfers-counted (Transfers.In port a) m w true next n pc h = refl
-transfers-counted (Transfers.In port a) m w false next n pc h = refl
-transfers-counted (Transfers.Out port a) m w dry next n pc h = refl
+transfers-counted (Transfers.Dmov a) m w next n pc h = refl
+transfers-counted (Transfers.In port a) m w next n pc h = refl
+transfers-counted (Transfers.Out port a) m w next n pc h = refl
 
 rule-counted : (i : Instruction) (before m : Machine) (words : Words) (n pc : ℕ) → traitsOf i .repeatable ≡ true
     → ruleOf i (countedAt before n pc) (countedAt m n pc) words ≡ uncounted (ruleOf i before m words) n pc
@@ -181,7 +180,7 @@ rule-counted (Family.Accumulator i) before m words n pc h = accumulator-counted 
 rule-counted (Family.Multiplier i) before m words n pc h = multiplier-counted i m (words .operand) (words .table) (words .at) n pc h
 rule-counted (Family.Auxiliary i) before m words n pc h = auxiliary-counted i before m (words .operand) n pc h
 rule-counted (Family.Branches i) before m words n pc h = branches-counted i before m (words .second) n pc h
-rule-counted (Family.Transfers i) before m words n pc h = transfers-counted i m (words .operand) (words .dry) (words .next) n pc h
+rule-counted (Family.Transfers i) before m words n pc h = transfers-counted i m (words .operand) (words .next) n pc h
 rule-counted (Family.Modes i) before m words n pc h = modes-counted i m (words .operand) n pc h
 
 -- ---- operands and words read
@@ -261,9 +260,9 @@ module _ (g : Given) (w : World) (i : Instruction) (d : decodedAt g (w .«data»
 
   -- nothing that a pass asks looks at RPTC
   pass-recounted : (second : ℕ)
-      → passRows (traitsOf i) (addressOf (traitsOf i .operand) (withRptc (w .m) n)) second (length (w .output)) (withRptc (w .m) n)
-      ≡ passRows (traitsOf i) (addressOf (traitsOf i .operand) (w .m)) second (length (w .output)) (w .m)
-  unfolding passRows accessRows restRows dataAbsent tableAbsent tableAddress outputFull
+      → passRows (traitsOf i) (addressOf (traitsOf i .operand) (withRptc (w .m) n)) second (length (g .input)) (length (w .output)) (withRptc (w .m) n)
+      ≡ passRows (traitsOf i) (addressOf (traitsOf i .operand) (w .m)) second (length (g .input)) (length (w .output)) (w .m)
+  unfolding passRows accessRows restRows dataAbsent tableAbsent tableAddress inputDry outputFull
   pass-recounted second = rw (address-counted (traitsOf i .operand) (w .m) n (w .m .pc))
 
   none-recounted : NoneHolds (tableFor (Built i) g (w .«data») (length (w .output)) (w .m)) → NoneHolds (tableFor (Built i) g (w .«data») (length (w .output)) (withRptc (w .m) n))

@@ -77,11 +77,11 @@ module _ (g : Given) where
 counted : RunOutcome → ℕ → RunOutcome
 counted r n = record { world = r .world; steps = n; answer = r .answer }
 
-none-before : (r : RunOutcome) → r ≡ continued 0 r
+pub none-before : (r : RunOutcome) → r ≡ continued 0 r
 unfolding counted
 none-before r = ap (counted r) (omega arith)
 
-one-before : (a : ℕ) (r : RunOutcome) → oneMore (continued a r) ≡ continued (suc a) r
+pub one-before : (a : ℕ) (r : RunOutcome) → oneMore (continued a r) ≡ continued (suc a) r
 unfolding counted
 one-before a r = ap (counted r) (omega arith)
 

@@ -21,7 +21,7 @@ use Rattle.steps.specs.Step.{pagePlan, planOf, afterStore, stepOf, rowsOf}
 use Rattle.steps.specs.RowLaws.{every, every-first, none-done, none-from, none-append, plan-by-first}
 use Rattle.steps.specs.Refusals.{passRows, accessRows, restRows}
 use Rattle.steps.specs.TableLaws.{step-answer, rows-refuse}
-use Rattle.laws.specs.Laws.{RefusedUnchanged, AnswersOfAStep, GivenBy, RowGiven, RepeatBeforeSecondWord, PortBeforeData, PresenceBeforeEncoding, isAmong, stepNumbers}
+use Rattle.laws.specs.Laws.{RefusedUnchanged, AnswersOfAStep, GivenBy, RowGiven, RepeatBeforeSecondWord, PortBeforeData, PortBeforeDry, DataBeforeDry, PresenceBeforeEncoding, isAmong, stepNumbers}
 use Rattle.board.specs.Given.{Given}
 
 -- facts one after another
@@ -74,7 +74,7 @@ answers-of-checks g «data» outputLength m = first-numbered (checkRows g «data
 
 -- the rows of the pass, of a table in which none holds
 pub pass-none : (i : Instruction) (g : Given) («data» : List ℕ) (outputLength : ℕ) (m : Machine) → NoneHolds (tableFor (Built i) g «data» outputLength m)
-    → NoneHolds (passRows (traitsOf i) (addressOf (traitsOf i .operand) m) (secondWord i g «data» m) outputLength m)
+    → NoneHolds (passRows (traitsOf i) (addressOf (traitsOf i .operand) m) (secondWord i g «data» m) (length (g .input)) outputLength m)
 unfolding tableFor instructionRows
 pass-none i g «data» outputLength m n =
     let fetched = none-append (checkRows g «data» outputLength m) _ n .1 in
@@ -121,3 +121,13 @@ pub port-before-data : PortBeforeData
 unfolding firstGiven tableFor checkRows fetchRows encodingRows instructionRows repeatRows passRows accessRows
 port-before-data g w i s repeats present wrong absent =
     rw (step-answer g w, s .word-is, s .cells-in-range, s .slices-of-size, s .word-present, repeats, present, wrong)
+
+pub port-before-dry : PortBeforeDry
+unfolding firstGiven tableFor checkRows fetchRows encodingRows instructionRows repeatRows passRows accessRows
+port-before-dry g w i s repeats present wrong dry =
+    rw (step-answer g w, s .word-is, s .cells-in-range, s .slices-of-size, s .word-present, repeats, present, wrong)
+
+pub data-before-dry : DataBeforeDry
+unfolding firstGiven tableFor checkRows fetchRows encodingRows instructionRows repeatRows passRows accessRows
+data-before-dry g w i s repeats present right absent dry =
+    rw (step-answer g w, s .word-is, s .cells-in-range, s .slices-of-size, s .word-present, repeats, present, right, absent)

@@ -1,5 +1,4 @@
 -- The pages of DMOV, IN and OUT. The machine is that after the operand's modification, w the data word that was read.
-use mathlib.Core.Bool.{Bool, cond}
 use Prim.Native.Nat.{ℕ}
 use Rattle.alu.specs.Registers.{wrappedSum}
 use Rattle.machine.specs.declared.Machine.{Machine}
@@ -11,9 +10,10 @@ use Rattle.pages.specs.Passes.{stored, copied, sent}
 unfoldable pub DMOV : ℕ → Machine → Effect
 DMOV w m = copied m w
 
--- The next word of the input slice is stored. "An IN from a port run dry stores 0 and moves no cursor."
-unfoldable pub IN : Bool → ℕ → Machine → Effect
-IN dry next m = cond dry (stored m 0) (stored (withInputCursor m (wrappedSum (m .«input_cursor») 1)) next)
+-- The next word of the input slice is stored. Where there is none, 11 has refused the pass: document 01's "stores 0 and moves no cursor" no longer holds
+-- (document 02, request 2).
+unfoldable pub IN : ℕ → Machine → Effect
+IN next m = stored (withInputCursor m (wrappedSum (m .«input_cursor») 1)) next
 
 -- the data word is sent
 unfoldable pub OUT : ℕ → Machine → Effect

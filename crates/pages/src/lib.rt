@@ -40,9 +40,8 @@ pub struct Words {
     // The program word of a MAC or MACD, and the address that it was read at.
     pub table: u16,
     pub at: u16,
-    // The next word of the input, and whether there is none.
+    // The next word of the input.
     pub next: u16,
-    pub dry: bool,
 }
 
 // What a pass stores besides the machine's cells.

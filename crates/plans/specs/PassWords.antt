@@ -1,8 +1,7 @@
 -- The words of a pass in two parts, as the code reads them: those of the memories for every instruction, and the port's for IN alone.
 use mathlib.Core.List.{List}
 use Prim.Native.Nat.{ℕ}
-use lib.ListN.{getD, length}
-use Rattle.board.specs.Slices.{portSpent}
+use lib.ListN.{getD}
 use Rattle.pages.specs.declared.Words.{Words}
 use Rattle.plans.specs.declared.MemoryWords.{MemoryWords}
 
@@ -16,5 +15,4 @@ withPort words input cursor = record {
   table = words .table;
   at = words .at;
   next = getD input cursor 0;
-  dry = portSpent (length input) cursor;
 }

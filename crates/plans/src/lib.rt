@@ -17,11 +17,10 @@ use steps::Plan;
 use stores::write_of;
 ghost use mathlib.Core.Path.{_≡_};
 ghost use mathlib.Core.List.{[]};
-ghost use lib.ListN.{getD, length};
+ghost use lib.ListN.{getD};
 ghost use Rattle.pages.specs.Addressing.{addressOf};
 ghost use Rattle.pages.specs.Rules.{ruleOf};
 ghost use Rattle.pages.specs.TransfersRule.{transfersRule};
-ghost use Rattle.board.specs.Slices.{portSpent};
 ghost use Rattle.board.specs.Windows.{programWord};
 ghost use Rattle.board.specs.Given.{given};
 ghost use Rattle.steps.specs.Pass.{readWord, wordsRead, performed, passPlan};
@@ -93,10 +92,9 @@ fn words_read<'a>(
 
 // The next input word is read for a transfer alone.
 fn transfer(page: Transfers, m: Machine, word: u16, input: &[u16], cursor: u16) -> Effect
-    ensures { λ r. ⌜ r ≡ transfersRule page m word (portSpent (length (now (input .entry))) cursor) (getD (now (input .entry)) cursor 0) ⌝ }
+    ensures { λ r. ⌜ r ≡ transfersRule page m word (getD (now (input .entry)) cursor 0) ⌝ }
 {
-    let dry = slices::port_spent(input.len(), cursor);
-    transfers::rule(page, m, word, dry, slices::input_word(input, cursor))
+    transfers::rule(page, m, word, slices::input_word(input, cursor))
 }
 
 // One rule for every instruction, by its family.
@@ -161,7 +159,7 @@ pub fn plan_pass<'a>(
 {
     let operand = t.operand;
     let address = address_of(m, operand);
-    let answer = pass_refusal(t, address, second, output_length, m);
+    let answer = pass_refusal(t, address, second, input.len(), output_length, m);
     if is_done(answer) {
         return perform(i, t, address, second, rom, data, input, m);
     }

@@ -5,9 +5,8 @@ use mathlib.Core.List.{List, []}
 use Prim.Native.Nat.{ℕ, _+_, _-_, _^_, _<_}
 use native.Mathlib.Omega.{arith}
 use lib.Dec.{eqb}
-use lib.ListN.{length, take}
+use lib.ListN.{take}
 use lib.Seq.{slice}
-use borrow.Author.Tests.{leb-false}
 use Rattle.machine.specs.declared.Machine.{Machine}
 use Rattle.operands.specs.declared.Modification.{Modification}
 use Rattle.operands.specs.declared.Modification.the-variants.{None, Minus, Plus, MinusReversed, MinusIndex, PlusIndex, PlusReversed}
@@ -24,7 +23,6 @@ use Rattle.pages.specs.Traits.{traitsOf}
 use Rattle.pages.specs.Addressing.{moved, pointed, modified, addressed, addressOf}
 use Rattle.pages.specs.MultiplierPages.{tableAddress}
 use Rattle.board.specs.Regions.{inRom, inProgramB0}
-use Rattle.board.specs.Slices.{portSpent}
 use Rattle.board.specs.Windows.{windowOf, programWord}
 use Rattle.board.specs.Given.{Given}
 use Rattle.steps.specs.Pass.{readWord, wordsRead}
@@ -104,12 +102,11 @@ unfolding secondWord
 second-lt x g «data» m f d = or-none (eqb (traitsOf x .words) 2) _ (program-word-lt (m .cnf) (secondAddress m) (g .rom) «data» f d)
 
 pub words-read : (t : Traits) (second : ℕ) (g : Given) («data» : List ℕ) (m : Machine) → second < 2 ^ 16 → WordsFit (g .rom) → WordsFit «data» → WordsFit (g .input)
-    → WordsRead (length (g .input)) (addressed (t .operand) m) (wordsRead t second g «data» m)
-unfolding wordsRead portSpent
+    → WordsRead (wordsRead t second g «data» m)
+unfolding wordsRead
 words-read t second g «data» m h f d k = record {
   operand = read-lt (t .access) «data» (addressOf (t .operand) m) d;
   second = h;
   table = or-none (t .table) _ (program-word-lt (m .cnf) (tableAddress m second) (g .rom) «data» f d);
   next = word-at (g .input) (m .«input_cursor») k;
-  not-dry = λ e. rw (addressed-cursors (t .operand) m .0) (leb-false _ _ e);
 }

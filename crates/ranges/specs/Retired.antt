@@ -50,11 +50,12 @@ withRowBefore name r (s ∷ rows) = cond (eqt (s .name) name) (r ∷ s ∷ rows)
 unfoldable pub formerRows : Answer → Given → World → List Row
 formerRows a g w = withRowBefore "6" (row "8" a (addressAbove (decodedAt g (w .«data») (w .m)) (w .m))) (rowsOf g w)
 
--- where the row stands: "Order in a step: 1, 2, 5 for the first word, 3, 4, 7, 5 for the second word, 9, 8, 6, 5 for a MAC or MACD table word, 10."
+-- where the row stands: "Order in a step: 1, 2, 5 for the first word, 3, 4, 7, 5 for the second word, 9, 8, 6, 5 for a MAC or MACD table word, 10.",
+-- with 11, which document 02 puts "after 6 and before the table word's 5"
 abbrev pub FormerOrder : Type 0
 FormerOrder = (a : Answer) (g : Given) (w : World) (i : Instruction) → decodedAt g (w .«data») (w .m) ≡ Built i
     → map (λ (r : Row). r .name) (formerRows a g w)
-    ≡ "1" ∷ "2" ∷ "5 for the first word" ∷ "3" ∷ "4" ∷ "7" ∷ "5 for the second word" ∷ "9" ∷ "8" ∷ "6" ∷ "5 for a MAC or MACD table word" ∷ "10" ∷ []
+    ≡ "1" ∷ "2" ∷ "5 for the first word" ∷ "3" ∷ "4" ∷ "7" ∷ "5 for the second word" ∷ "9" ∷ "8" ∷ "6" ∷ "11" ∷ "5 for a MAC or MACD table word" ∷ "10" ∷ []
 
 -- a step and a run by that table
 unfoldable pub formerPlan : Answer → Given → World → Plan

@@ -39,7 +39,7 @@ use Rattle.pages.specs.declared.Jump.the-variants.{Past, To}
 use Rattle.pages.specs.declared.Effect.{Effect}
 use Rattle.pages.specs.Passes.{withSum, kept, stored, copied, jumped}
 use Rattle.pages.specs.Traits.{traitsOf, transfersTraits}
-use Rattle.steps.specs.Refusals.{sends}
+use Rattle.steps.specs.Refusals.{takes, sends}
 use Rattle.pages.specs.declared.Words.{Words}
 use Rattle.pages.specs.Rules.{ruleOf}
 use Rattle.encodings.specs.Encode.{accumulatorFields, multiplierFields, auxiliaryFields, modeFields, fieldsOf}
@@ -63,13 +63,12 @@ pub record EffectFits (i o : ℕ) (e : Effect) : Type 0 where
   pub store : StoreFits (e .store)
   pub jump : JumpFits (e .jump)
 
--- the words that a pass has read, by a machine whose cursors may go on
-pub record WordsRead (i : ℕ) (m : Machine) (words : Words) : Type 0 where
+-- the words that a pass has read
+pub record WordsRead (words : Words) : Type 0 where
   pub operand : words .operand < 2 ^ 16
   pub second : words .second < 2 ^ 16
   pub table : words .table < 2 ^ 16
   pub next : words .next < 2 ^ 16
-  pub not-dry : words .dry ≡ false → m .«input_cursor» < i
 
 nine : (w : ℕ) → w % 2 ^ 9 < 512
 nine w = omega arith
@@ -195,14 +194,13 @@ module _ {i o : ℕ} where
   branches-keeps Branches.Ret before {m} f h = jumping (set-popped f) (top-fits f)
 
   -- IN and OUT move a cursor that is not at its slice's end
-  transfers-keeps : (x : Transfers) {m : Machine} {w : ℕ} (dry : Bool) {next : ℕ} → Fits i o m → w < 2 ^ 16 → next < 2 ^ 16
-      → (dry ≡ false → m .«input_cursor» < i) → (sends (transfersTraits x .port) ≡ true → m .«output_cursor» < o)
-      → EffectFits i o (transfersRule x m w dry next)
-  unfolding transfersRule DMOV IN OUT transfersTraits sends
-  transfers-keeps (Transfers.Dmov a) dry f h k more room = copying f h
-  transfers-keeps (Transfers.In port a) true f h k more room = storing f (omega arith)
-  transfers-keeps (Transfers.In port a) {m} false f h k more room = storing (set-cell "input cursor" f (omega (arith, sum-le (m .«input_cursor») 1, more refl))) k
-  transfers-keeps (Transfers.Out port a) {m} dry f h k more room =
+  transfers-keeps : (x : Transfers) {m : Machine} {w next : ℕ} → Fits i o m → w < 2 ^ 16 → next < 2 ^ 16
+      → (takes (transfersTraits x .port) ≡ true → m .«input_cursor» < i) → (sends (transfersTraits x .port) ≡ true → m .«output_cursor» < o)
+      → EffectFits i o (transfersRule x m w next)
+  unfolding transfersRule DMOV IN OUT transfersTraits takes sends
+  transfers-keeps (Transfers.Dmov a) f h k more room = copying f h
+  transfers-keeps (Transfers.In port a) {m} f h k more room = storing (set-cell "input cursor" f (omega (arith, sum-le (m .«input_cursor») 1, more refl))) k
+  transfers-keeps (Transfers.Out port a) {m} f h k more room =
       record { m = set-cell "output cursor" f (omega (arith, sum-le (m .«output_cursor») 1, room refl)); store = h; jump = tt }
 
   modes-keeps : (x : Modes) {m : Machine} (w : ℕ) → Fits i o m → FieldsWithin (modeFields x) → EffectFits i o (modesRule x m w)
@@ -218,12 +216,12 @@ module _ {i o : ℕ} where
   modes-keeps Modes.Push {m} w f g = only (set-pushed f _ (sixteen (m .acc)))
   modes-keeps Modes.Pop {m} w f g = only (set-cell "ACC" (set-popped f) (omega (arith, top-fits f)))
 
-  pub rule-keeps : (x : Instruction) {before m : Machine} (words : Words) → Fits i o before → Fits i o m → WordsRead i m words → FieldsWithin (fieldsOf x)
-      → (sends (traitsOf x .port) ≡ true → m .«output_cursor» < o) → EffectFits i o (ruleOf x before m words)
+  pub rule-keeps : (x : Instruction) {before m : Machine} (words : Words) → Fits i o before → Fits i o m → WordsRead words → FieldsWithin (fieldsOf x)
+      → (takes (traitsOf x .port) ≡ true → m .«input_cursor» < i) → (sends (traitsOf x .port) ≡ true → m .«output_cursor» < o) → EffectFits i o (ruleOf x before m words)
   unfolding fieldsOf ruleOf traitsOf
-  rule-keeps (Family.Accumulator x) words b f r g room = accumulator-keeps x f (r .operand) g
-  rule-keeps (Family.Multiplier x) words b f r g room = multiplier-keeps x (words .table) (words .at) f (r .operand) g
-  rule-keeps (Family.Auxiliary x) words b f r g room = auxiliary-keeps x b f (r .operand) g
-  rule-keeps (Family.Branches x) {before} words b f r g room = branches-keeps x before f (r .second)
-  rule-keeps (Family.Transfers x) words b f r g room = transfers-keeps x (words .dry) f (r .operand) (r .next) (r .not-dry) room
-  rule-keeps (Family.Modes x) words b f r g room = modes-keeps x (words .operand) f g
+  rule-keeps (Family.Accumulator x) words b f r g more room = accumulator-keeps x f (r .operand) g
+  rule-keeps (Family.Multiplier x) words b f r g more room = multiplier-keeps x (words .table) (words .at) f (r .operand) g
+  rule-keeps (Family.Auxiliary x) words b f r g more room = auxiliary-keeps x b f (r .operand) g
+  rule-keeps (Family.Branches x) {before} words b f r g more room = branches-keeps x before f (r .second)
+  rule-keeps (Family.Transfers x) words b f r g more room = transfers-keeps x f (r .operand) (r .next) more room
+  rule-keeps (Family.Modes x) words b f r g more room = modes-keeps x (words .operand) f g

@@ -2,11 +2,11 @@
 use mathlib.Core.Path.{_≡_, refl, sym, _∙_}
 use mathlib.Core.Bool.{Bool, true, false, cond, _&&_, false≢true}
 use mathlib.Core.List.{List}
-use Prim.Native.Nat.{ℕ, _+_, _-_, _^_, _<_}
+use Prim.Native.Nat.{ℕ, _+_, _^_, _<_}
 use native.Mathlib.Omega.{arith}
-use lib.Dec.{ltb, leb}
+use lib.Dec.{ltb}
 use lib.ListN.{length, length-set}
-use borrow.Author.Tests.{le-leb, eq-eqb, leb-false}
+use borrow.Author.Tests.{le-leb, eq-eqb}
 use Rattle.machine.specs.declared.Machine.{Machine}
 use Rattle.machine.specs.RangeLaws.{ranged, in-range}
 use Rattle.answers.specs.declared.Answer.the-variants.{Done}
@@ -19,17 +19,16 @@ use Rattle.pages.specs.declared.Store.the-variants as Left
 use Rattle.pages.specs.declared.Jump.{Jump}
 use Rattle.pages.specs.declared.Jump.the-variants.{Past, To}
 use Rattle.pages.specs.Passes.{destination, followed}
-use Rattle.pages.specs.declared.Traits.{Traits}
 use Rattle.pages.specs.Traits.{traitsOf}
 use Rattle.pages.specs.Addressing.{addressOf}
 use Rattle.board.specs.Regions.{moveAllowed}
-use Rattle.board.specs.Slices.{memoriesFit, portFits, portSpent, slicesFit}
-use Rattle.board.specs.SliceLaws.{slices-fit}
+use Rattle.board.specs.Slices.{memoriesFit, portFits, slicesFit}
+use Rattle.board.specs.SliceLaws.{slices-fit, words-left}
 use Rattle.board.specs.Given.{Given}
 use Rattle.steps.specs.declared.Write.{Write}
 use Rattle.steps.specs.declared.Write.the-variants as Write
 use Rattle.steps.specs.Rows.{Row, NoneHolds}
-use Rattle.steps.specs.Refusals.{sends, outputFull, passRows, accessRows, restRows}
+use Rattle.steps.specs.Refusals.{takes, sends, inputDry, outputFull, passRows, accessRows, restRows}
 use Rattle.steps.specs.Stores.{writeOf, dataAfter, outputAfter}
 use Rattle.steps.specs.Pass.{wordsRead, effectOf, passedMachine, passedWrite, performed}
 use Rattle.steps.specs.World.{World}
@@ -37,7 +36,7 @@ use Rattle.steps.specs.Table.{decodedAt, secondWord, tableFor, checkRows, fetch
 use Rattle.steps.specs.Step.{afterStore, stepOf}
 use Rattle.steps.specs.RowLaws.{row-not}
 use Rattle.steps.specs.TableLaws.{step-world}
-use Rattle.laws.specs.Steps.{_and_, refused-unchanged, row-given}
+use Rattle.laws.specs.Steps.{refused-unchanged, row-given}
 use Rattle.laws.specs.Runs.{by-first}
 use Rattle.ranges.specs.Ranges.{WordsFit, WorldInRange, StepInRange}
 use Rattle.ranges.specs.Fields.{FieldsFit, DecodedFits}
@@ -128,14 +127,14 @@ slices-kept (Write.Sent at word) d output h f g =
 -- ---- the pass
 
 module _ (g : Given) (d : List ℕ) (o : ℕ) (x : Instruction) (m : Machine) (f : Fits (length (g .input)) o m) (fields : FieldsFit x)
-    (room : sends (traitsOf x .port) ≡ true → m .«output_cursor» < o)
+    (more : takes (traitsOf x .port) ≡ true → m .«input_cursor» < length (g .input)) (room : sends (traitsOf x .port) ≡ true → m .«output_cursor» < o)
     (hr : WordsFit (g .rom)) (hd : WordsFit d) (hi : WordsFit (g .input)) where
   effect-fits : EffectFits (length (g .input)) o (effectOf (traitsOf x) x (secondWord x g d m) g d m)
   unfolding effectOf
   effect-fits =
       rule-keeps x (wordsRead (traitsOf x) (secondWord x g d m) g d m) f (addressed-keeps (traitsOf x .operand) (fields .operand) f)
       (words-read (traitsOf x) (secondWord x g d m) g d m (second-lt x g d m hr hd) hr hd hi) (fields .numbers)
-      (λ e. rw (addressed-cursors (traitsOf x .operand) m .1) (room e))
+      (λ e. rw (addressed-cursors (traitsOf x .operand) m .0) (more e)) (λ e. rw (addressed-cursors (traitsOf x .operand) m .1) (room e))
 
   passed-fits : Fits (length (g .input)) o (passedMachine (traitsOf x) x (secondWord x g d m) g d m)
   unfolding passedMachine
@@ -147,26 +146,19 @@ module _ (g : Given) (d : List ℕ) (o : ℕ) (x : Instruction) (m : Machine) (f
 
 -- ---- the step
 
-room-where : (s t : Bool) → s && t ≡ false → s ≡ true → t ≡ false
-room-where true t h e = h
-room-where false t h e = absurd (false≢true e)
-
-room-left : (t : Traits) (o : ℕ) (m : Machine) → outputFull t o m ≡ false → sends (t .port) ≡ true → m .«output_cursor» < o
-unfolding outputFull portSpent
-room-left t o m h e = leb-false _ _ (room-where (sends (t .port)) (leb o (m .«output_cursor»)) h e)
-
 module _ (g : Given) (w : World) (k : WorldInRange g w) (e : stepOf g w .answer ≡ Done) where
-  built-in-range : (x : Instruction) → decodedAt g (w .«data») (w .m) ≡ Built x → FieldsFit x → outputFull (traitsOf x) (length (w .output)) (w .m) ≡ false
-      → WorldInRange g (stepOf g w .world)
-  unfolding afterStore performed
-  built-in-range x c fields full =
+  built-in-range : (x : Instruction) → decodedAt g (w .«data») (w .m) ≡ Built x → FieldsFit x
+      → inputDry (traitsOf x) (length (g .input)) (w .m) ≡ false → outputFull (traitsOf x) (length (w .output)) (w .m) ≡ false → WorldInRange g (stepOf g w .world)
+  unfolding afterStore performed inputDry outputFull
+  built-in-range x c fields dry full =
       let s = slices-fit (w .m) (g .rom) (w .«data») (g .input) (length (w .output)) (k .slices-fit) in
-      let room = room-left (traitsOf x) (length (w .output)) (w .m) full in
+      let more = words-left (takes (traitsOf x .port)) (length (g .input)) (w .m .«input_cursor») dry in
+      let room = words-left (sends (traitsOf x .port)) (length (w .output)) (w .m .«output_cursor») full in
       let f = cells-fit g w k in
       let write = passedWrite (traitsOf x) x (secondWord x g (w .«data») (w .m)) g (w .«data») (w .m) in
       let after = slices-kept write (w .«data») (w .output)
-      (passed-write g (w .«data») (length (w .output)) x (w .m) f fields room (k .rom-words) (k .data-words) (k .input-words)) (k .data-words) (k .output-words) in
-      let n = passed-fits g (w .«data») (length (w .output)) x (w .m) f fields room (k .rom-words) (k .data-words) (k .input-words) in
+      (passed-write g (w .«data») (length (w .output)) x (w .m) f fields more room (k .rom-words) (k .data-words) (k .input-words)) (k .data-words) (k .output-words) in
+      let n = passed-fits g (w .«data») (length (w .output)) x (w .m) f fields more room (k .rom-words) (k .data-words) (k .input-words) in
       rw (step-world g w x c e)
       (record {
         in-range = in-range _ (n .ranged);
@@ -183,7 +175,7 @@ module _ (g : Given) (w : World) (k : WorldInRange g w) (e : stepOf g w .answer 
   decoded-in-range : (c : Decoded) → decodedAt g (w .«data») (w .m) ≡ c → DecodedFits c
       → NoneHolds (table c) → WorldInRange g (stepOf g w .world)
   unfolding table tableFor checkRows fetchRows encodingRows instructionRows repeatRows passRows accessRows restRows
-  decoded-in-range (Built x) c fields n = built-in-range x c fields (row-not (table (Built x)) "10" n)
+  decoded-in-range (Built x) c fields n = built-in-range x c fields (row-not (table (Built x)) "11" n) (row-not (table (Built x)) "10" n)
   decoded-in-range Unbuilt c fields n = absurd (false≢true (sym (row-not (table Unbuilt) "4" n)))
   decoded-in-range Nothing c fields n = absurd (false≢true (sym (row-not (table Nothing) "3" n)))
 

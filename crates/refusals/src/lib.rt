@@ -9,12 +9,12 @@ use pages::Traits;
 use steps::Plan;
 use steps::Write;
 ghost use mathlib.Core.Path.{_≡_};
-ghost use mathlib.Core.Bool.{not, _&&_};
+ghost use mathlib.Core.Bool.{not, _&&_, _||_};
 ghost use Rattle.board.specs.Regions.{dataPresent, programPresent};
 ghost use Rattle.board.specs.Slices.{portSpent};
 ghost use Rattle.steps.specs.Pass.{refused};
 ghost use Rattle.steps.specs.Rows.{firstGiven};
-ghost use Rattle.steps.specs.Refusals.{accesses, wrongPort, sends, accessRows, restRows, passRefusal};
+ghost use Rattle.steps.specs.Refusals.{accesses, wrongPort, takes, sends, accessRows, restRows, passRefusal};
 
 // A refused step leaves the machine as it is and stores nothing.
 pub fn refuse(m: Machine, answer: Answer) -> Plan
@@ -47,13 +47,13 @@ fn is_wrong_port(port: Port) -> bool
     }
 }
 
-fn is_sent(port: Port) -> bool
-    ensures { λ r. ⌜ r ≡ sends port ⌝ }
+fn is_taken(port: Port) -> bool
+    ensures { λ r. ⌜ r ≡ takes port ⌝ }
 {
     match port {
         Port::None => false,
-        Port::Input(_) => false,
-        Port::Output(_) => true,
+        Port::Input(_) => true,
+        Port::Output(_) => false,
     }
 }
 
@@ -70,13 +70,15 @@ pub fn is_program_absent(needed: bool, cnf: u8, at: u16) -> bool
     false
 }
 
-fn is_output_full(sent: bool, output_length: usize, cursor: u16) -> bool
-    ensures { λ r. ⌜ r ≡ (sent && portSpent «output_length» cursor) ⌝ }
+// Whether nothing is left of the port's slice. Both ports are asked at once, so that an instruction without one meets one test.
+fn is_port_spent(port: Port, input_length: usize, output_length: usize, m: Machine) -> bool
+    ensures { λ r. ⌜ r ≡ (takes port && portSpent «input_length» (m .«input_cursor») || sends port && portSpent «output_length» (m .«output_cursor»)) ⌝ }
 {
-    if sent {
-        return slices::port_spent(output_length, cursor);
+    match port {
+        Port::None => false,
+        Port::Input(_) => slices::port_spent(input_length, m.input_cursor),
+        Port::Output(_) => slices::port_spent(output_length, m.output_cursor),
     }
-    false
 }
 
 fn is_data_absent(accessed: bool, cnf: u8, address: u32) -> bool
@@ -103,15 +105,25 @@ fn access_refusal(t: Traits, address: u32, m: Machine) -> Answer
     Answer::Done
 }
 
-// What the rest asks: 5 for a table word, and 10.
-fn rest_refusal(t: Traits, second: u16, output_length: usize, m: Machine) -> Answer
-    ensures { λ r. ⌜ r ≡ firstGiven (restRows t second «output_length» m) ⌝ }
+// What the rest asks: 11, 5 for a table word, and 10.
+fn rest_refusal(
+    t: Traits,
+    second: u16,
+    input_length: usize,
+    output_length: usize,
+    m: Machine,
+) -> Answer
+    ensures { λ r. ⌜ r ≡ firstGiven (restRows t second «input_length» «output_length» m) ⌝ }
 {
     let port = t.port;
+    let spent = is_port_spent(port, input_length, output_length, m);
+    if spent & is_taken(port) {
+        return Answer::InputDry;
+    }
     if is_program_absent(t.table, m.cnf, table_address(m, second)) {
         return Answer::ProgramAbsent;
     }
-    if is_output_full(is_sent(port), output_length, m.output_cursor) {
+    if spent {
         return Answer::OutputFull;
     }
     Answer::Done
@@ -122,14 +134,15 @@ pub fn pass_refusal(
     t: Traits,
     address: u32,
     second: u16,
+    input_length: usize,
     output_length: usize,
     m: Machine,
 ) -> Answer
-    ensures { λ r. ⌜ r ≡ passRefusal t address second «output_length» m ⌝ }
+    ensures { λ r. ⌜ r ≡ passRefusal t address second «input_length» «output_length» m ⌝ }
 {
     let asked = access_refusal(t, address, m);
     if is_done(asked) {
-        return rest_refusal(t, second, output_length, m);
+        return rest_refusal(t, second, input_length, output_length, m);
     }
     asked
 }

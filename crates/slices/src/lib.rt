@@ -80,7 +80,7 @@ pub fn data_word(data: &[u16], address: u16) -> u16
     word_at(data, address)
 }
 
-// The word that an IN finds; "an IN from a port run dry stores 0".
+// The word that an IN finds. A dry port refuses the step before (11), so that nothing stores the 0 that stands for no word.
 pub fn input_word(input: &[u16], cursor: u16) -> u16
     ensures { λ r. ⌜ r ≡ getD (now (input .entry)) cursor 0 ⌝ }
 {

@@ -28,7 +28,7 @@ use Rattle.board.specs.Slices.{memoriesFit, portFits, portSpent, slicesFit}
 use Rattle.board.specs.Windows.{windowOf, programWord}
 use Rattle.board.specs.Given.{given}
 use Rattle.steps.specs.Rows.{firstGiven}
-use Rattle.steps.specs.Refusals.{accesses, wrongPort, sends, dataAbsent, tableAbsent, outputFull, passRows, accessRows, restRows}
+use Rattle.steps.specs.Refusals.{accesses, wrongPort, takes, sends, dataAbsent, inputDry, tableAbsent, outputFull, passRows, accessRows, restRows}
 use Rattle.steps.specs.Stores.{writeOf, dataAfter, outputAfter}
 use Rattle.steps.specs.Pass.{readWord, wordsRead, effectOf, passedMachine, passedWrite, performed, planBy}
 use Rattle.steps.specs.Table.{checksOf, decodedAt, secondAddress, secondWord, notRepeatable, secondAbsent, tableFor, checkRows, fetchRows, encodingRows, instructionRows, repeatRows}
@@ -48,7 +48,7 @@ use Rattle.stacking_cases.specs.EdgeCase.{edgeRom, edgeData, edgeMachine
 use Rattle.stacking_cases.specs.SizedLaws.{allSized, sized-by}
 
 pub edge-case : EdgeCase
-unfolding signed low holds held settled carry added product productWord leftBy rightBy productShift shiftedProduct wrappedSum resetMachine inRange lowFits modificationOf nextOf indirectOf addressModeOf decodeOf traitsOf multiplierTraits moved pointed modified addressed addressOf APAC tableAddress multiplierRule ruleOf followed destination dataRegion dataPresent onChip moveAllowed inRom inProgramB0 programPresent memoriesFit portFits portSpent slicesFit windowOf programWord firstGiven accesses wrongPort sends dataAbsent tableAbsent outputFull readWord wordsRead effectOf writeOf passedMachine passedWrite performed dataAfter outputAfter decodedAt secondAddress secondWord notRepeatable secondAbsent tableFor checkRows fetchRows encodingRows instructionRows repeatRows passRows accessRows restRows planBy pagePlan planOf afterStore stepOf modesTraits MAC MACD RPT modesRule checksOf runOf pairFor pairAt pairsRead words exactSum edgeRom edgeData edgeMachine edgeWorld edgeRun
+unfolding signed low holds held settled carry added product productWord leftBy rightBy productShift shiftedProduct wrappedSum resetMachine inRange lowFits modificationOf nextOf indirectOf addressModeOf decodeOf traitsOf multiplierTraits moved pointed modified addressed addressOf APAC tableAddress multiplierRule ruleOf followed destination dataRegion dataPresent onChip moveAllowed inRom inProgramB0 programPresent memoriesFit portFits portSpent slicesFit windowOf programWord firstGiven accesses wrongPort takes sends dataAbsent inputDry tableAbsent outputFull readWord wordsRead effectOf writeOf passedMachine passedWrite performed dataAfter outputAfter decodedAt secondAddress secondWord notRepeatable secondAbsent tableFor checkRows fetchRows encodingRows instructionRows repeatRows passRows accessRows restRows planBy pagePlan planOf afterStore stepOf modesTraits MAC MACD RPT modesRule checksOf runOf pairFor pairAt pairsRead words exactSum edgeRom edgeData edgeMachine edgeWorld edgeRun
 edge-case = record { comes-to = refl; leaves = refl; reads = refl; exact = refl }
 
 -- *+

@@ -17,7 +17,6 @@ use Rattle.pages.specs.MultiplierPages.{tableAddress}
 use Rattle.pages.specs.declared.Words.{Words}
 use Rattle.pages.specs.Rules.{ruleOf}
 use Rattle.board.specs.Given.{Given}
-use Rattle.board.specs.Slices.{portSpent}
 use Rattle.board.specs.Windows.{programWord}
 use Rattle.steps.specs.Rows.{Row}
 use Rattle.steps.specs.Refusals.{passRows}
@@ -41,7 +40,6 @@ wordsRead t second g «data» m = record {
   table = cond (t .table) (programWord (m .cnf) (tableAddress m second) (g .rom) «data») 0;
   at = tableAddress m second;
   next = getD (g .input) (m .«input_cursor») 0;
-  dry = portSpent (length (g .input)) (m .«input_cursor»);
 }
 
 -- The page's rule, with the machine before and after the operand's modification. t is what the page says of the instruction besides (`traitsOf i`).
@@ -77,4 +75,4 @@ performed t i second g «data» m = record {
 }
 
 unfoldable pub passPlan : Traits → Instruction → ℕ → Given → List ℕ → ℕ → Machine → Plan
-passPlan t i second g «data» outputLength m = planBy (passRows t (addressOf (t .operand) m) second outputLength m) m (performed t i second g «data» m)
+passPlan t i second g «data» outputLength m = planBy (passRows t (addressOf (t .operand) m) second (length (g .input)) outputLength m) m (performed t i second g «data» m)

@@ -5,7 +5,7 @@ use Prim.Native.Nat.{ℕ}
 use lib.Dec.{eqb}
 use Rattle.machine.specs.declared.Machine.{Machine}
 use Rattle.answers.specs.declared.Answer.{Answer}
-use Rattle.answers.specs.declared.Answer.the-variants.{ProgramAbsent, WrongPort, DataAbsent, OutputFull}
+use Rattle.answers.specs.declared.Answer.the-variants.{ProgramAbsent, WrongPort, DataAbsent, OutputFull, InputDry}
 use Rattle.pages.specs.declared.Access.{Access}
 use Rattle.pages.specs.declared.Access.the-variants as Access
 use Rattle.pages.specs.declared.Port.{Port}
@@ -28,6 +28,12 @@ wrongPort Port.None = false
 wrongPort (Port.Input port) = not (eqb port 0)
 wrongPort (Port.Output port) = not (eqb port 1)
 
+-- an IN takes a word from its port, an OUT sends one to its port
+unfoldable pub takes : Port → Bool
+takes Port.None = false
+takes (Port.Input port) = true
+takes (Port.Output port) = false
+
 unfoldable pub sends : Port → Bool
 sends Port.None = false
 sends (Port.Input port) = false
@@ -36,6 +42,10 @@ sends (Port.Output port) = true
 -- "data address read or written is absent"
 unfoldable pub dataAbsent : Traits → ℕ → Machine → Bool
 dataAbsent t address m = accesses (t .access) && not (dataPresent (m .cnf) address)
+
+-- "input port dry" (document 02, request 2): an IN with no word left in the input slice
+unfoldable pub inputDry : Traits → ℕ → Machine → Bool
+inputDry t inputLength m = takes (t .port) && portSpent inputLength (m .«input_cursor»)
 
 -- "program address absent", of a MAC or MACD table word
 unfoldable pub tableAbsent : Traits → ℕ → Machine → Bool
@@ -52,16 +62,17 @@ accessRows t address m =
     ∷ row "6" DataAbsent (dataAbsent t address m)
     ∷ []
 
--- what the rest asks: "5 for a MAC or MACD table word, 10"
-unfoldable pub restRows : Traits → ℕ → ℕ → Machine → List Row
-restRows t second outputLength m =
-    row "5 for a MAC or MACD table word" ProgramAbsent (tableAbsent t second m)
+-- what the rest asks: "11 .. after 6 and before the table word's 5", "5 for a MAC or MACD table word, 10"
+unfoldable pub restRows : Traits → ℕ → ℕ → ℕ → Machine → List Row
+restRows t second inputLength outputLength m =
+    row "11" InputDry (inputDry t inputLength m)
+    ∷ row "5 for a MAC or MACD table word" ProgramAbsent (tableAbsent t second m)
     ∷ row "10" OutputFull (outputFull t outputLength m)
     ∷ []
 
 -- the rows of a pass, the last of the order
-unfoldable pub passRows : Traits → ℕ → ℕ → ℕ → Machine → List Row
-passRows t address second outputLength m = accessRows t address m ++ restRows t second outputLength m
+unfoldable pub passRows : Traits → ℕ → ℕ → ℕ → ℕ → Machine → List Row
+passRows t address second inputLength outputLength m = accessRows t address m ++ restRows t second inputLength outputLength m
 
-unfoldable pub passRefusal : Traits → ℕ → ℕ → ℕ → Machine → Answer
-passRefusal t address second outputLength m = firstGiven (passRows t address second outputLength m)
+unfoldable pub passRefusal : Traits → ℕ → ℕ → ℕ → ℕ → Machine → Answer
+passRefusal t address second inputLength outputLength m = firstGiven (passRows t address second inputLength outputLength m)

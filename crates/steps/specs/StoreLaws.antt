@@ -147,12 +147,11 @@ branches-fits (Branches.Bnv i) before m pma = none _ _ (branched-stores _ _ _)
 branches-fits (Branches.Call i) before m pma = tt
 branches-fits Branches.Ret before m pma = tt
 
-transfers-fits : (i : Transfers) (m : Machine) (w : ℕ) (dry : Bool) (next : ℕ) → StoreAllowed (transfersTraits i .access) (transfersRule i m w dry next .store)
+transfers-fits : (i : Transfers) (m : Machine) (w next : ℕ) → StoreAllowed (transfersTraits i .access) (transfersRule i m w next .store)
 unfolding transfersTraits transfersRule accesses DMOV IN OUT
-transfers-fits (Transfers.Dmov a) m w dry next = tt
-transfers-fits (Transfers.In port a) m w true next = refl
-transfers-fits (Transfers.In port a) m w false next = refl
-transfers-fits (Transfers.Out port a) m w dry next = tt
+transfers-fits (Transfers.Dmov a) m w next = tt
+transfers-fits (Transfers.In port a) m w next = refl
+transfers-fits (Transfers.Out port a) m w next = tt
 
 pub store-fits : (i : Instruction) (before m : Machine) (words : Words) → StoreAllowed (traitsOf i .access) (ruleOf i before m words .store)
 unfolding traitsOf ruleOf
@@ -160,7 +159,7 @@ store-fits (Family.Accumulator i) before m words = accumulator-fits i m (words .
 store-fits (Family.Multiplier i) before m words = multiplier-fits i m (words .operand) (words .table) (words .at)
 store-fits (Family.Auxiliary i) before m words = auxiliary-fits i before m (words .operand)
 store-fits (Family.Branches i) before m words = branches-fits i before m (words .second)
-store-fits (Family.Transfers i) before m words = transfers-fits i m (words .operand) (words .dry) (words .next)
+store-fits (Family.Transfers i) before m words = transfers-fits i m (words .operand) (words .next)
 store-fits (Family.Modes i) before m words = modes-fits i m (words .operand)
 
 -- what the data slice must be for a store: of its size, with the address in it

@@ -2,6 +2,7 @@
 use mathlib.Core.Bool.{Bool, not, cond, _&&_}
 use mathlib.Core.List.{List, [], _∷_, _++_}
 use Prim.Native.Nat.{ℕ}
+use lib.ListN.{length}
 use lib.Dec.{ltb, eqb}
 use Rattle.alu.specs.Registers.{wrappedSum}
 use Rattle.machine.specs.declared.Machine.{Machine}
@@ -61,12 +62,12 @@ repeatRows i m = row "7" NotRepeatable (notRepeatable m i) ∷ row "5 for the se
 
 -- of an instruction, where the word is one
 unfoldable pub instructionRows : Decoded → Given → List ℕ → ℕ → Machine → List Row
-instructionRows (Built i) g «data» outputLength m = repeatRows i m ++ passRows (traitsOf i) (addressOf (traitsOf i .operand) m) (secondWord i g «data» m) outputLength m
+instructionRows (Built i) g «data» outputLength m = repeatRows i m ++ passRows (traitsOf i) (addressOf (traitsOf i .operand) m) (secondWord i g «data» m) (length (g .input)) outputLength m
 instructionRows Unbuilt g «data» outputLength m = []
 instructionRows Nothing g «data» outputLength m = []
 
--- The order in a step, without 8, which is retired (request 10): 1, 2, 5 for the first word, 3, 4, 7, 5 for the second word, 9, 6, 5 for a MAC or MACD
--- table word, 10.
+-- The order in a step, without 8, which is retired (request 10), and with 11 (request 2): 1, 2, 5 for the first word, 3, 4, 7, 5 for the second word, 9, 6,
+-- 11, 5 for a MAC or MACD table word, 10.
 unfoldable pub tableFor : Decoded → Given → List ℕ → ℕ → Machine → List Row
 tableFor d g «data» outputLength m = checkRows g «data» outputLength m ++ (fetchRows m ++ (encodingRows d ++ instructionRows d g «data» outputLength m))
 

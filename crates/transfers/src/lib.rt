@@ -15,12 +15,9 @@ fn dmov(w: u16, m: Machine) -> Effect
     copy_word(m, w)
 }
 
-fn input(dry: bool, next: u16, m: Machine) -> Effect
-    ensures { λ r. ⌜ r ≡ IN dry next m ⌝ }
+fn input(next: u16, m: Machine) -> Effect
+    ensures { λ r. ⌜ r ≡ IN next m ⌝ }
 {
-    if dry {
-        return store_word(m, 0);
-    }
     let mut n = m;
     n.input_cursor = registers::wrapped_sum(m.input_cursor, 1);
     store_word(n, next)
@@ -34,13 +31,13 @@ fn output(w: u16, m: Machine) -> Effect
     send_word(n, w)
 }
 
-// The rule of each case, with the machine after the operand's modification, the data word that was read, the next word of the input, and whether it is dry.
-pub fn rule(i: Transfers, m: Machine, w: u16, dry: bool, next: u16) -> Effect
-    ensures { λ r. ⌜ r ≡ transfersRule i m w dry next ⌝ }
+// The rule of each case, with the machine after the operand's modification, the data word that was read, and the next word of the input.
+pub fn rule(i: Transfers, m: Machine, w: u16, next: u16) -> Effect
+    ensures { λ r. ⌜ r ≡ transfersRule i m w next ⌝ }
 {
     match i {
         Transfers::Dmov(_) => dmov(w, m),
-        Transfers::In(_, _) => input(dry, next, m),
+        Transfers::In(_, _) => input(next, m),
         Transfers::Out(_, _) => output(w, m),
     }
 }

@@ -1,35 +1,53 @@
-use Rattle.steps.specs.Rows.{firstGiven}
-use Rattle.steps.specs.Refusals.{restRows, tableAbsent, outputFull}
+-- Not routine: the two ports are asked at once, since an instruction uses one of them (rest-first).
+use Rattle.steps.specs.Refusals.{inputDry, tableAbsent, outputFull}
+use Rattle.steps.specs.RefusalLaws.{rest-first}
 use borrow.Author.Needs.{needs}
 use Rattle.refusals.proofs.rest_refusal.Statement.{statement}
 use Rattle.refusals.proofs.rest_refusal.Tie as tie
 
 returns : tie.Need-returns
-unfolding firstGiven restRows tableAbsent outputFull
-returns c = rw (← c .before .before .table-address .ensures, ← c .before .is-program-absent .ensures, c .if1 .taken)
+unfolding inputDry tableAbsent outputFull
+returns c = rw (rest-first, ← c .before .before .is-port-spent .ensures, ← c .before .is-taken .ensures, c .if1 .taken)
 
 returns-2 : tie.Need-returns-2
-unfolding firstGiven restRows tableAbsent outputFull
+unfolding inputDry tableAbsent outputFull
 returns-2 c =
     rw (
-      ← c .before .before .before .before .before .table-address .ensures,
-      ← c .before .before .before .before .is-program-absent .ensures,
-      ← c .before .before .is-sent .ensures,
-      ← c .before .is-output-full .ensures,
+      rest-first,
+      ← c .before .before .before .before .before .is-port-spent .ensures,
+      ← c .before .before .before .before .is-taken .ensures,
+      ← c .before .before .table-address .ensures,
+      ← c .before .is-program-absent .ensures,
       c .before .before .before .if1 .left,
       c .if2 .taken,
     )
 
 returns-3 : tie.Need-returns-3
-unfolding firstGiven restRows tableAbsent outputFull
+unfolding inputDry tableAbsent outputFull
 returns-3 c =
     rw (
-      ← c .before .before .before .before .before .table-address .ensures,
-      ← c .before .before .before .before .is-program-absent .ensures,
-      ← c .before .before .is-sent .ensures,
-      ← c .before .is-output-full .ensures,
-      c .before .before .before .if1 .left,
-      c .if2 .left,
+      rest-first,
+      ← c .before .before .before .before .before .before .is-port-spent .ensures,
+      ← c .before .before .before .before .before .is-taken .ensures,
+      ← c .before .before .before .table-address .ensures,
+      ← c .before .before .is-program-absent .ensures,
+      c .before .before .before .before .if1 .left,
+      c .before .if2 .left,
+      c .if3 .taken,
+    )
+
+returns-4 : tie.Need-returns-4
+unfolding inputDry tableAbsent outputFull
+returns-4 c =
+    rw (
+      rest-first,
+      ← c .before .before .before .before .before .before .is-port-spent .ensures,
+      ← c .before .before .before .before .before .is-taken .ensures,
+      ← c .before .before .before .table-address .ensures,
+      ← c .before .before .is-program-absent .ensures,
+      c .before .before .before .before .if1 .left,
+      c .before .if2 .left,
+      c .if3 .left,
     )
 
 pub rest-refusal-spec : {M : Type 1} → statement M
@@ -42,4 +60,5 @@ rest-refusal-spec =
     (λ c κs. search needs)
     (λ c κs. search needs)
     returns-2
-    returns-3)
+    returns-3
+    returns-4)

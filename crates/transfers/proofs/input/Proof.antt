@@ -5,18 +5,12 @@ use Rattle.transfers.proofs.input.Tie as tie
 
 returns : tie.Need-returns
 unfolding IN
-returns c = rw (c .store-word .ensures, c .before .if1 .taken)
-
-returns-2 : tie.Need-returns-2
-unfolding IN
-returns-2 c = rw (c .store-word2 .ensures, c .before .wrapped-sum .ensures, c .before .before .if1 .left)
+returns c = rw (c .store-word .ensures, c .before .wrapped-sum .ensures)
 
 pub input-spec : {M : Type 1} → statement M
 input-spec =
     tie.close
     (tie.spec
     (λ c κs. search needs)
-    returns
     (λ c κs. search needs)
-    (λ c κs. search needs)
-    returns-2)
+    returns)

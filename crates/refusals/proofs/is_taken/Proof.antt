@@ -1,22 +1,22 @@
-use Rattle.steps.specs.Refusals.{sends}
+use Rattle.steps.specs.Refusals.{takes}
 use borrow.Author.Needs.{needs}
-use Rattle.refusals.proofs.is_sent.Statement.{statement}
-use Rattle.refusals.proofs.is_sent.Tie as tie
+use Rattle.refusals.proofs.is_taken.Statement.{statement}
+use Rattle.refusals.proofs.is_taken.Tie as tie
 
 returns : tie.Need-returns
-unfolding sends
+unfolding takes
 returns c = rw (c .enum-told .given .1)
 
 returns-2 : tie.Need-returns-2
-unfolding sends
+unfolding takes
 returns-2 c = rw (c .enum-told2 .given .1)
 
 returns-3 : tie.Need-returns-3
-unfolding sends
+unfolding takes
 returns-3 c = rw (c .enum-told3 .given .1)
 
-pub is-sent-spec : {M : Type 1} → statement M
-is-sent-spec =
+pub is-taken-spec : {M : Type 1} → statement M
+is-taken-spec =
     tie.close
     (tie.spec
     (λ c. search needs)

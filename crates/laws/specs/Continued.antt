@@ -1,0 +1,228 @@
+-- A run that a dry port stopped, and its continuation with further words: proofs.
+use mathlib.Core.Path.{_≡_, refl, sym, _∙_, ap}
+use mathlib.Core.Bool.{Bool, true, false, not, cond, _&&_, false≢true}
+use mathlib.Core.List.{List, [], _∷_, _++_, append-nil}
+use Prim.Native.Nat.{ℕ, zero, suc, _+_, _-_, _≤_, _<_}
+use native.Mathlib.Omega.{arith}
+use lib.Dec.{eqb}
+use lib.ListN.{length, length-append, List·getD-append}
+use borrow.Author.Tests.{lt-leb, not-false}
+use Rattle.machine.specs.declared.Machine.{Machine}
+use Rattle.answers.specs.declared.Answer.the-variants.{Done, InputDry}
+use Rattle.answers.specs.Numbers.{numberOf, isDone}
+use Rattle.answers.specs.NumberLaws.{done-is}
+use Rattle.instructions.specs.declared.Instruction.{Instruction}
+use Rattle.instructions.specs.declared.Instruction.the-variants as Family
+use Rattle.instructions.specs.declared.Transfers.{Transfers}
+use Rattle.instructions.specs.declared.Transfers.the-variants as Transfers
+use Rattle.instructions.specs.declared.Decoded.{Decoded}
+use Rattle.instructions.specs.declared.Decoded.the-variants.{Built, Unbuilt, Nothing}
+use Rattle.pages.specs.declared.Words.{Words}
+use Rattle.pages.specs.Traits.{transfersTraits, traitsOf}
+use Rattle.pages.specs.Addressing.{addressed, addressOf}
+use Rattle.pages.specs.Rules.{ruleOf}
+use Rattle.pages.specs.TransfersRule.{transfersRule}
+use Rattle.board.specs.Given.{Given}
+use Rattle.board.specs.Slices.{portSpent}
+use Rattle.board.specs.SliceLaws.{slices-fit, longer-fits, words-left, none-left}
+use Rattle.steps.specs.Rows.{Row, row, firstGiven, NoneHolds}
+use Rattle.steps.specs.Refusals.{takes, inputDry, passRows, accessRows, restRows}
+use Rattle.steps.specs.Pass.{wordsRead, effectOf, passedMachine, passedWrite, performed}
+use Rattle.steps.specs.declared.Plan.{Plan}
+use Rattle.steps.specs.World.{World}
+use Rattle.steps.specs.Table.{decodedAt, secondWord, tableFor, checksOf, checkRows, fetchRows, encodingRows, instructionRows, repeatRows}
+use Rattle.steps.specs.Step.{afterStore, stepOf, oneMore, runOf}
+use Rattle.steps.specs.RowLaws.{every, every-first, row-not}
+use Rattle.steps.specs.TableLaws.{step-answer, step-world}
+use Rattle.laws.specs.Laws.{continued, withFurther, RunContinued, RunStoppedDry}
+use Rattle.laws.specs.Steps.{_and_, row-given}
+use Rattle.laws.specs.Runs.{run-none, run-refused, run-done, by-first, none-before, one-before}
+
+-- ---- a step that is done, with further words behind the input
+
+-- the words of a pass with another next word of the input, which IN alone looks at
+nextIs : Words → ℕ → Words
+nextIs words next = record { operand = words .operand; second = words .second; table = words .table; at = words .at; next = next }
+
+transfers-next : (x : Transfers) (m : Machine) (w : ℕ) {a b : ℕ} → (takes (transfersTraits x .port) ≡ true → a ≡ b) → transfersRule x m w a ≡ transfersRule x m w b
+unfolding transfersRule transfersTraits takes
+transfers-next (Transfers.Dmov operand) m w h = refl
+transfers-next (Transfers.In port operand) m w h = ap (λ (next : ℕ). transfersRule (Transfers.In port operand) m w next) (h refl)
+transfers-next (Transfers.Out port operand) m w h = refl
+
+rule-next : (i : Instruction) (before m : Machine) (words : Words) {a b : ℕ} → (takes (traitsOf i .port) ≡ true → a ≡ b)
+    → ruleOf i before m (nextIs words a) ≡ ruleOf i before m (nextIs words b)
+unfolding ruleOf traitsOf nextIs
+rule-next (Family.Accumulator i) before m words h = refl
+rule-next (Family.Multiplier i) before m words h = refl
+rule-next (Family.Auxiliary i) before m words h = refl
+rule-next (Family.Branches i) before m words h = refl
+rule-next (Family.Transfers i) before m words h = transfers-next i m (words .operand) h
+rule-next (Family.Modes i) before m words h = refl
+
+module _ (g : Given) (further : List ℕ) (l : length (g .input ++ further) ≤ 1024) where
+  longer : length (g .input) ≤ length (g .input ++ further)
+  longer = omega (arith, length-append (g .input) further)
+
+  left-further : (used : Bool) (cursor : ℕ) → used && portSpent (length (g .input)) cursor ≡ false → used && portSpent (length (g .input ++ further)) cursor ≡ false
+  unfolding portSpent
+  left-further true cursor h = lt-leb (length (g .input ++ further)) cursor (omega (arith, words-left true (length (g .input)) cursor h refl, longer))
+  left-further false cursor h = refl
+
+  -- the table of a built instruction: further words change rows 2 and 11 alone, and neither holds
+  none-further : (i : Instruction) (d : List ℕ) (outputLength : ℕ) (m : Machine) → NoneHolds (tableFor (Built i) g d outputLength m)
+      → NoneHolds (tableFor (Built i) (withFurther g further) d outputLength m)
+  unfolding tableFor checkRows fetchRows encodingRows instructionRows repeatRows passRows accessRows restRows inputDry secondWord
+  none-further i d outputLength m n =
+      let rows = tableFor (Built i) g d outputLength m in
+      row-not rows "1" n
+      and ap not (longer-fits m (g .rom) d (g .input) (g .input ++ further) outputLength longer l (not-false _ (row-not rows "2" n)))
+      and row-not rows "5 for the first word" n
+      and refl
+      and refl
+      and row-not rows "7" n
+      and row-not rows "5 for the second word" n
+      and row-not rows "9" n
+      and row-not rows "6" n
+      and left-further (takes (traitsOf i .port)) (m .«input_cursor») (row-not rows "11" n)
+      and row-not rows "5 for a MAC or MACD table word" n
+      and row-not rows "10" n
+      and tt
+
+  -- and the rule: IN takes a word that was there
+  effect-further : (i : Instruction) (second : ℕ) (d : List ℕ) (m : Machine) → inputDry (traitsOf i) (length (g .input)) m ≡ false
+      → effectOf (traitsOf i) i second (withFurther g further) d m ≡ effectOf (traitsOf i) i second g d m
+  unfolding effectOf wordsRead inputDry nextIs
+  effect-further i second d m dry =
+      rule-next i m (addressed (traitsOf i .operand) m) (wordsRead (traitsOf i) second g d m)
+      (λ taken. List·getD-append (g .input) further 0 (m .«input_cursor») (words-left (takes (traitsOf i .port)) (length (g .input)) (m .«input_cursor») dry taken))
+
+  performed-further : (i : Instruction) (second : ℕ) (d : List ℕ) (m : Machine) → inputDry (traitsOf i) (length (g .input)) m ≡ false
+      → performed (traitsOf i) i second (withFurther g further) d m ≡ performed (traitsOf i) i second g d m
+  unfolding performed passedMachine passedWrite
+  performed-further i second d m dry = rw (effect-further i second d m dry)
+
+  module _ (w : World) (e : stepOf g w .answer ≡ Done) where
+    record SameStep : Type 0 where
+      answer-same : stepOf (withFurther g further) w .answer ≡ Done
+      world-same : stepOf (withFurther g further) w .world ≡ stepOf g w .world
+
+    built-same : (i : Instruction) → decodedAt g (w .«data») (w .m) ≡ Built i → NoneHolds (tableFor (Built i) g (w .«data») (length (w .output)) (w .m)) → SameStep
+    unfolding tableFor checkRows fetchRows encodingRows instructionRows repeatRows passRows accessRows restRows decodedAt secondWord
+    built-same i d n =
+        let dry = row-not (tableFor (Built i) g (w .«data») (length (w .output)) (w .m)) "11" n in
+        let done : stepOf (withFurther g further) w .answer ≡ Done =
+        row-given (withFurther g further) w .done-by (rw d (none-further i (w .«data») (length (w .output)) (w .m) n)) in
+        record {
+          answer-same = done;
+          world-same =
+              step-world (withFurther g further) w i d done
+              ∙ (ap (λ (p : Plan). afterStore p w) (performed-further i (secondWord i g (w .«data») (w .m)) (w .«data») (w .m) dry) ∙ sym (step-world g w i d e));
+        }
+
+    decoded-same : (x : Decoded) → decodedAt g (w .«data») (w .m) ≡ x → NoneHolds (tableFor x g (w .«data») (length (w .output)) (w .m)) → SameStep
+    unfolding tableFor checkRows fetchRows encodingRows instructionRows
+    decoded-same (Built i) d n = built-same i d n
+    decoded-same Unbuilt d n = absurd (false≢true (sym (row-not (tableFor Unbuilt g (w .«data») (length (w .output)) (w .m)) "4" n)))
+    decoded-same Nothing d n = absurd (false≢true (sym (row-not (tableFor Nothing g (w .«data») (length (w .output)) (w .m)) "3" n)))
+
+    step-further : SameStep
+    step-further = decoded-same (decodedAt g (w .«data») (w .m)) refl (row-given g w .done-only e)
+
+  -- ---- the run
+
+  run-further : (budget : ℕ) (w : World)
+      → runOf (withFurther g further) budget w
+      ≡ continued (runOf g budget w .steps) (runOf (withFurther g further) (budget - runOf g budget w .steps) (runOf g budget w .world))
+  run-further zero w = rw (run-none g w) (none-before (runOf (withFurther g further) 0 w))
+  run-further (suc n) w = by-first g w
+      (λ d.
+      let s = step-further w (done-is _ d) in
+      let after = stepOf g w .world in
+      let less : suc n - suc (runOf g n after .steps) ≡ n - runOf g n after .steps = omega arith in
+      run-done (withFurther g further) n w (ap isDone (s .answer-same))
+      ∙ (ap (λ (v : World). oneMore (runOf (withFurther g further) n v)) (s .world-same)
+      ∙ (ap oneMore (run-further n after) ∙ rw (run-done g n w d, less) (one-before (runOf g n after .steps) _))))
+      (λ r.
+      let whole : suc n - 0 ≡ suc n = omega arith in
+      rw (run-refused g n w r, whole) (none-before (runOf (withFurther g further) (suc n) w)))
+
+pub run-continued : RunContinued
+run-continued g further budget w l = run-further g further l budget w
+
+-- ---- a run that is stopped dry
+
+-- Test: a row's answer is not 11.
+notDry : Row → Bool
+notDry r = not (eqb (numberOf (r .answer)) 11)
+
+-- where a table gives 11 and its first rows have other answers, none of them holds, and the rest gives 11
+reached : (rows rest : List Row) → every notDry rows ≡ true → firstGiven (rows ++ rest) ≡ InputDry → NoneHolds rows × (firstGiven rest ≡ InputDry)
+unfolding firstGiven notDry
+reached [] rest h e = (tt, e)
+reached (r ∷ rows) rest h e = let both = every-first notDry r rows h in by (r .given) refl (both .0) (reached rows rest (both .1)) e
+  where
+    by : (t : Bool) → r .given ≡ t → notDry r ≡ true → (firstGiven (rows ++ rest) ≡ InputDry → NoneHolds rows × (firstGiven rest ≡ InputDry))
+        → cond t (r .answer) (firstGiven (rows ++ rest)) ≡ InputDry → NoneHolds (r ∷ rows) × (firstGiven rest ≡ InputDry)
+    by true g other next e = absurd (false≢true (rw e at other))
+    by false g other next e = ((g, next e .0), next e .1)
+
+never-dry : (rows : List Row) → every notDry rows ≡ true → firstGiven rows ≡ InputDry → ⊥
+unfolding firstGiven
+never-dry rows h e = false≢true (ap isDone (sym (reached rows [] h (rw append-nil e) .1)))
+
+row-11-holds : (dry : Bool) (rest : List Row) → every notDry rest ≡ true → firstGiven (row "11" InputDry dry ∷ rest) ≡ InputDry → dry ≡ true
+unfolding firstGiven
+row-11-holds true rest h e = refl
+row-11-holds false rest h e = absurd (never-dry rest h e)
+
+-- 11 is given only where the cursor is at the input's end
+module _ (g : Given) (d : List ℕ) (outputLength : ℕ) (m : Machine) where
+  rowsBefore11 : Instruction → List Row
+  rowsBefore11 i = checkRows g d outputLength m ++ fetchRows m ++ encodingRows (Built i) ++ repeatRows i m ++ accessRows (traitsOf i) (addressOf (traitsOf i .operand) m) m
+
+  built-at-end : (i : Instruction) → firstGiven (tableFor (Built i) g d outputLength m) ≡ InputDry → m .«input_cursor» ≡ length (g .input)
+  unfolding rowsBefore11 tableFor checkRows fetchRows encodingRows instructionRows repeatRows passRows accessRows restRows notDry inputDry
+  built-at-end i e =
+      let r = reached (rowsBefore11 i) (restRows (traitsOf i) (secondWord i g d m) (length (g .input)) outputLength m) refl e in
+      let not-past = slices-fit m (g .rom) d (g .input) outputLength (not-false _ (row-not (rowsBefore11 i) "2" (r .0))) .input-port .not-past in
+      let spent = none-left (takes (traitsOf i .port)) (length (g .input)) (m .«input_cursor») (row-11-holds _ _ refl (r .1)) in
+      omega (arith, not-past, spent)
+
+  decoded-at-end : (x : Decoded) → firstGiven (tableFor x g d outputLength m) ≡ InputDry → m .«input_cursor» ≡ length (g .input)
+  unfolding tableFor checkRows fetchRows encodingRows instructionRows notDry
+  decoded-at-end (Built i) e = built-at-end i e
+  decoded-at-end Unbuilt e = absurd (never-dry (tableFor Unbuilt g d outputLength m) refl e)
+  decoded-at-end Nothing e = absurd (never-dry (tableFor Nothing g d outputLength m) refl e)
+
+at-end : (g : Given) (w : World) → stepOf g w .answer ≡ InputDry → w .m .«input_cursor» ≡ length (g .input)
+at-end g w e = decoded-at-end g (w .«data») (length (w .output)) (w .m) (decodedAt g (w .«data») (w .m)) (sym (step-answer g w) ∙ e)
+
+-- where a run ends so: before its budget, at a step that is dry
+record EndsDry (g : Given) (budget : ℕ) (w : World) : Type 0 where
+  unused : runOf g budget w .steps < budget
+  step-dry : stepOf g (runOf g budget w .world) .answer ≡ InputDry
+
+ends-dry : (g : Given) (budget : ℕ) (w : World) → runOf g budget w .answer ≡ InputDry → EndsDry g budget w
+unfolding checksOf checkRows notDry
+ends-dry g zero w h = absurd (never-dry (checkRows g (w .«data») (length (w .output)) (w .m)) refl (rw run-none at h))
+ends-dry g (suc n) w h = by-first g w
+    (λ d.
+    let run = run-done g n w d in
+    let after = ends-dry g n (stepOf g w .world) (rw run at h) in
+    record { unused = rw run (omega (arith, after .unused)); step-dry = rw run (after .step-dry) })
+    (λ r.
+    let run = run-refused g n w r in
+    record { unused = rw run (omega arith); step-dry = rw run (rw run at h) })
+
+pub run-stopped-dry : RunStoppedDry
+run-stopped-dry g budget w h =
+    let end = ends-dry g budget w h in
+    record {
+      unused = end .unused;
+      dry-again = λ n. run-refused g n (runOf g budget w .world) (ap isDone (end .step-dry)) ∙ rw (end .step-dry);
+      dry-no-more = λ word others e.
+          let here = at-end g (runOf g budget w .world) (end .step-dry) in
+          let there = at-end (withFurther g (word ∷ others)) (runOf g budget w .world) e in
+          omega (arith, here, there, length-append (g .input) (word ∷ others));
+    }
