@@ -1,6 +1,7 @@
 /*
  * Self-tests of the plain interpreter. Every expected value is taken from the
- * documents: D01 (the scope paper), G n (line n of the guide), Rn (a ruling).
+ * documents: D01 (the scope paper), D02 (the change requests), G n (line n of
+ * the guide), Rn (a ruling).
  */
 #include "plain.h"
 
@@ -1346,16 +1347,20 @@ static void rulings_repeats(void)
     expect("R30 ARB", m.arb, 2);
     expect("R30 PC", m.pc, 2);
 
-    /* R31 and the dry port (D01). */
+    /* R31: a dry port (D02) and a full one (D01) refuse that pass alone. */
     fresh();
     input_len = 2; input[0] = 0x11; input[1] = 0x22;
     m.ar[0] = 0x400; data[0x402] = 0x99; m.t = 0x77; m.acc = 0x88;
     rom[0] = 0xCB02; rom[1] = 0x80A0;
-    expect("R31 IN", (uint64_t)run(4, &steps), 0);
+    expect("R31 IN", (uint64_t)run(4, &steps), 11);
+    expect("R31 IN steps", steps, 3);
     expect("R31 IN 0", data[0x400], 0x11);
     expect("R31 IN 1", data[0x401], 0x22);
-    expect("R31 IN dry", data[0x402], 0);
+    expect("R31 IN dry", data[0x402], 0x99);
     expect("R31 IN cursor", m.input_cursor, 2);
+    expect("R31 IN AR0", m.ar[0], 0x402);
+    expect("R31 IN RPTC", m.rptc, 0);
+    expect("R31 IN MID", m.mid, 1);
     fresh();
     output_len = 2; m.ar[0] = 0x400;
     data[0x400] = 0x11; data[0x401] = 0x22; data[0x402] = 0x33;
@@ -1434,6 +1439,163 @@ static void rulings_repeats(void)
     does("POP", 0xCE1D);
     expect("POP ACC", m.acc, 9);
     expect_stack("POP", popped);
+}
+
+/* ---- The dry port (D02, request 2) -------------------------------------- */
+
+/* Nothing moves, `refuses` sees to that; with a word there it is done. */
+static void dry_steps(void)
+{
+    fresh();
+    m.dp = 6; data[0x300] = 0x99; m.input_cursor = 4; rom[0] = 0x8000;
+    refuses("11 direct", 11);
+    input_len = 0; m.input_cursor = 0;
+    refuses("11, empty slice", 11);
+
+    fresh();
+    m.arp = 2; m.arb = 6; m.ar[2] = 0x400; data[0x400] = 0x99;
+    m.input_cursor = 3; input[3] = 0x1234; input_len = 3;
+    rom[0] = 0x80AD; /* IN *+,PA0, next ARP 5 */
+    refuses("11 *+,5", 11);
+    expect("11 AR2", m.ar[2], 0x400);
+    expect("11 ARP", m.arp, 2);
+    expect("11 ARB", m.arb, 6);
+    expect("11 word", data[0x400], 0x99);
+    input_len = 4;
+    does("a word more", 0x80AD);
+    expect("a word more, AR2", m.ar[2], 0x401);
+    expect("a word more, ARP", m.arp, 5);
+    expect("a word more, ARB", m.arb, 2);
+    expect("a word more, word", data[0x400], 0x1234);
+    expect("a word more, cursor", m.input_cursor, 4);
+
+    /* 1,024 words are the most; one more is check 2's. */
+    fresh();
+    m.dp = 6; input_len = 1024; m.input_cursor = 1024; rom[0] = 0x8000;
+    refuses("11 after 1,024 words", 11);
+    input_len = 1025;
+    refuses("1,025 words", 2);
+}
+
+/* 5, 3, 9 and 6 before 11. */
+static void dry_order(void)
+{
+    fresh();
+    input_len = 0; rom[0] = 0x80B0;
+    refuses("3 before 11", 3);
+    for (unsigned port = 1; port < 16; port++) {
+        rom[0] = (uint16_t)(0x8060 | port << 8);
+        refuses("9 before 11", 9);
+    }
+    rom[0] = 0x8000;
+    refuses("6 before 11, direct", 6);
+    m.ar[0] = 0x1000; rom[0] = 0x80A0;
+    refuses("6 before 11, indirect", 6);
+    m.ar[0] = 0x200; m.cnf = 1;
+    refuses("6 before 11, B0 in program space", 6);
+    m.cnf = 0;
+    refuses("11, B0 in data space", 11);
+    m.pc = 0x1000;
+    refuses("5 before 11", 5);
+}
+
+/* No word but IN from port 0 is asked. */
+static void dry_others(void)
+{
+    fresh();
+    input_len = 0; data[0x60] = 0x1234;
+    does("OUT, input dry", 0xE160);
+    expect("OUT, input dry: word", output[0], 0x1234);
+    expect("OUT, input dry: cursor", m.output_cursor, 1);
+
+    for (unsigned word = 0; word < 0x10000; word++) {
+        plain_reset(&m);
+        m.dp = 6; m.ar[0] = 0x300;
+        rom[0] = (uint16_t)word;
+        bool asked = word >> 8 == 0x80 && (word & 0xF0) != 0xB0;
+        expect("11 of IN only", step() == 11, asked);
+    }
+}
+
+/* RPTK 5; IN *+,PA0; LARP 1; RPTK 5; OUT *+,PA1; LACK 7: 16 steps. */
+static void start_frame(size_t words)
+{
+    static const uint16_t program[] = { 0xCB05, 0x80A0, 0x5589, 0xCB05, 0xE1A0,
+        0xCA07 };
+    static const uint16_t frame[] = { 0x11, 0x22, 0x33, 0x44, 0x55, 0x66 };
+    fresh();
+    memcpy(rom, program, sizeof program);
+    memcpy(input, frame, sizeof frame);
+    m.ar[0] = m.ar[1] = 0x400;
+    for (int i = 0; i < 6; i++)
+        data[0x400 + i] = 0x99;
+    input_len = words;
+    output_len = 6;
+}
+
+/* A repeat stops before its fifth word and goes on with it. */
+static void dry_repeat(void)
+{
+    uint32_t steps;
+    start_frame(4);
+    expect("dry", (uint64_t)run(16, &steps), 11);
+    expect("dry steps", steps, 5);
+    expect("dry RPTC", m.rptc, 1);
+    expect("dry MID", m.mid, 1);
+    expect("dry PC", m.pc, 1);
+    expect("dry AR0", m.ar[0], 0x404);
+    expect("dry cursor", m.input_cursor, 4);
+    expect("dry last word", data[0x403], 0x44);
+    expect("dry missing word", data[0x404], 0x99);
+    refuses("dry again", 11);
+    expect("no new word", (uint64_t)run(11, &steps), 11);
+    expect("no new word, steps", steps, 0);
+    expect("no new word, budget 0", (uint64_t)run(0, &steps), 0);
+
+    input_len = 6;
+    expect("going on", (uint64_t)run(11, &steps), 0);
+    expect("going on, steps", steps, 11);
+    expect("going on, PC", m.pc, 6);
+    expect("going on, ACC", m.acc, 7);
+    expect("going on, RPTC", m.rptc, 0);
+    expect("going on, MID", m.mid, 0);
+    for (unsigned i = 0; i < 6; i++)
+        expect("going on, word", output[i], 0x11 * (i + 1));
+}
+
+/* The run of `words` words on the budget, brought in two parts if need be. */
+static void run_in_parts(size_t first, size_t words, uint16_t budget)
+{
+    static struct plain_machine machine;
+    static uint16_t data_whole[sizeof data / sizeof data[0]];
+    static uint16_t output_whole[sizeof output / sizeof output[0]];
+    uint32_t whole_steps, steps, more = 0;
+    start_frame(words);
+    int whole = run(budget, &whole_steps);
+    machine = m;
+    memcpy(data_whole, data, sizeof data);
+    memcpy(output_whole, output, sizeof output);
+
+    start_frame(first);
+    int answer = run(budget, &steps);
+    input_len = words;
+    if (answer == 11)
+        answer = run((uint16_t)(budget - steps), &more);
+    expect("parts, answer", (uint64_t)answer, (uint64_t)whole);
+    expect("parts, steps", steps + more, whole_steps);
+    expect("parts, cells", (uint64_t)memcmp(&machine, &m, sizeof m), 0);
+    expect("parts, data", (uint64_t)memcmp(data_whole, data, sizeof data), 0);
+    expect("parts, output",
+           (uint64_t)memcmp(output_whole, output, sizeof output), 0);
+}
+
+/* On its unused budget, with the earlier words in front: the whole run. */
+static void dry_parts(void)
+{
+    for (size_t words = 0; words <= 6; words++)
+        for (size_t first = 0; first <= words; first++)
+            for (uint16_t budget = 0; budget <= 18; budget++)
+                run_in_parts(first, words, budget);
 }
 
 /* SOVM (G 7172), ROVM (R6), SSXM (G 7614), RSXM (G 6639), CNFD, CNFP. */
@@ -1769,6 +1931,23 @@ static void files(void)
     expect_line("none", bytes, length, "0 0 0000 00000000 0\n");
 }
 
+/* A loop takes two words and sends them, then it is 11 (D02, request 2). */
+static void dry_line(void)
+{
+    static const uint16_t program[] = {
+        0xC060,         /* LARK AR0,60h */
+        0x8080,         /* 1: IN *,PA0 */
+        0xE1A0,         /* OUT *+,PA1 */
+        0xFF80, 0x0001, /* B 1 */
+    };
+    static const uint16_t two[] = { 0x1234, 0xABCD };
+    uint8_t bytes[64];
+    size_t length;
+    expect("write dry", (uint64_t)plain_write(program, 5, NULL, 0, two, 2,
+        100, bytes, sizeof bytes, &length), 0);
+    expect_line("dry", bytes, length, "11 7 0001 00000000 0 1234 ABCD\n");
+}
+
 int main(void)
 {
     decode_counts();
@@ -1792,12 +1971,18 @@ int main(void)
     rulings_flags();
     rulings_registers();
     rulings_repeats();
+    dry_steps();
+    dry_order();
+    dry_others();
+    dry_repeat();
+    dry_parts();
     modes();
     fields();
     shifted_products();
     random_worlds();
     reset();
     files();
+    dry_line();
     printf("%lu checks, %lu failed\n", checks, failures);
     return failures != 0;
 }

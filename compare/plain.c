@@ -1,8 +1,8 @@
 /*
  * The plain interpreter: see plain.h for what the short marks mean.
  *
- * A step has two halves. `refused` asks the questions of D01's order, one
- * after another, and collects what the pass needs; nothing is changed there.
+ * A step has two halves. `refused` asks the questions of the order, one after
+ * another, and collects what the pass needs; nothing is changed there.
  * `perform` then does the page, and cannot fail.
  */
 #include "plain.h"
@@ -531,7 +531,7 @@ struct pass {
     uint32_t table_word;
 };
 
-/* The order of D01, 8 retired: 1, 2, 5, 3, 4, 7, 5, 9, 6, 5, 10. */
+/* The order of D01 and D02, 8 retired: 1, 2, 5, 3, 4, 7, 5, 9, 6, 11, 5, 10. */
 static int refused(const struct plain_machine *m, const struct board *b,
                    struct pass *pass)
 {
@@ -578,6 +578,10 @@ static int refused(const struct plain_machine *m, const struct board *b,
             pass->operand = b->data[pass->address];
     }
 
+    /* Nothing is stored for a missing word (D02, request 2). */
+    if (row->kind == IN && m->input_cursor == b->input_len)
+        return PLAIN_INPUT_DRY;
+
     /* The first pass takes the second word, later ones PFC (D01, R29). */
     if (row->kind == MAC || row->kind == MACD) {
         pass->table_address = m->mid == 0 ? pass->second : m->pfc;
@@ -615,14 +619,6 @@ static void multiply_accumulate(struct plain_machine *m,
     m->t = pass->operand;
     m->p = product(pass->operand, pass->table_word);
     m->pfc = (pass->table_address + 1) & 0xFFFF;
-}
-
-/* IN (G 4289): a port run dry gives 0 and moves no cursor (D01). */
-static uint32_t take_input(struct plain_machine *m, const struct board *b)
-{
-    if (m->input_cursor == b->input_len)
-        return 0;
-    return b->input[m->input_cursor++];
 }
 
 /* MPYK (G 5698): 13 bits, sign-extended to 16. */
@@ -904,7 +900,7 @@ static uint32_t perform(struct plain_machine *m,
         move_data(m, b, pass);
         break;
     case IN: /* G 4289 */
-        store(b, pass, take_input(m, b));
+        store(b, pass, b->input[m->input_cursor++]);
         break;
     case OUT: /* G 6060 */
         b->output[m->output_cursor++] = (uint16_t)operand;

@@ -2,8 +2,8 @@
  * A plain interpreter of the camera board's TMS320C25, written from the
  * documents alone. It is the second opinion on the proved emulator.
  *
- * "D01" is the scope paper, "G n" line n of the guide's text (document 003),
- * "Rn" a ruling on an open point.
+ * "D01" is the scope paper, "D02" the change requests, "G n" line n of the
+ * guide's text (document 003), "Rn" a ruling on an open point.
  */
 #ifndef PLAIN_H
 #define PLAIN_H
@@ -27,7 +27,7 @@ enum {
     PLAIN_LINE_ROOM = 64 + 5 * PLAIN_PORT_WORDS
 };
 
-/* Numbers that come back (D01). 8 is retired (document 02, request 10). */
+/* Numbers that come back (D01). D02 adds 11 (request 2), retires 8 (10). */
 enum {
     PLAIN_DONE = 0,
     PLAIN_CELL_OUT_OF_RANGE = 1,
@@ -39,6 +39,7 @@ enum {
     PLAIN_NOT_REPEATABLE = 7,
     PLAIN_WRONG_PORT = 9,
     PLAIN_OUTPUT_FULL = 10,
+    PLAIN_INPUT_DRY = 11,
     PLAIN_FILE_SHORT = 20,
     PLAIN_FILE_VERSION = 21,
     PLAIN_FILE_RULES = 22,
