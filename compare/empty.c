@@ -49,21 +49,35 @@ static void empty_memories(void)
     expect("counts", 0, steps + memory + from + count);
 }
 
-/* IN of a dry port stores 0; OUT to a full one is refused. */
-static void empty_ports(void)
+/* IN of a dry port is refused and stores nothing (D02, request 2). */
+static void empty_input(void)
+{
+    uint32_t steps = OTHER;
+    crowmitten_reset(cells, CROWMITTEN_CELLS);
+    rom[0] = 0x8060; /* IN 60h, PA0 */
+    data[0x60] = OTHER;
+    expect("step", 11, crowmitten_step(cells, CROWMITTEN_CELLS, rom,
+                                       CROWMITTEN_MEMORY_WORDS, data,
+                                       CROWMITTEN_MEMORY_WORDS, NULL, 0, NULL,
+                                       0));
+    expect("run", 11, crowmitten_run(cells, CROWMITTEN_CELLS, rom,
+                                     CROWMITTEN_MEMORY_WORDS, data,
+                                     CROWMITTEN_MEMORY_WORDS, NULL, 0, NULL, 0,
+                                     2, &steps));
+    expect("steps", 0, steps);
+    expect("word of a dry port", OTHER, data[0x60]);
+    expect("PC at a dry port", 0, cells[CROWMITTEN_PC]);
+    expect("cursor of a dry port", 0, cells[CROWMITTEN_INPUT_CURSOR]);
+}
+
+/* OUT to a full port is refused; it was the second step. */
+static void empty_output(void)
 {
     uint32_t steps = OTHER;
     size_t sent = OTHER;
     crowmitten_reset(cells, CROWMITTEN_CELLS);
-    rom[0] = 0x8060; /* IN 60h, PA0 */
+    rom[0] = 0x5500; /* NOP */
     rom[1] = 0xE160; /* OUT 60h, PA1 */
-    data[0x60] = OTHER;
-    expect("step", 0, crowmitten_step(cells, CROWMITTEN_CELLS, rom,
-                                      CROWMITTEN_MEMORY_WORDS, data,
-                                      CROWMITTEN_MEMORY_WORDS, NULL, 0, NULL,
-                                      0));
-    expect("word of a dry port", 0, data[0x60]);
-    crowmitten_reset(cells, CROWMITTEN_CELLS);
     expect("run", 10, crowmitten_run(cells, CROWMITTEN_CELLS, rom,
                                      CROWMITTEN_MEMORY_WORDS, data,
                                      CROWMITTEN_MEMORY_WORDS, NULL, 0, NULL, 0,
@@ -98,7 +112,8 @@ void compare_empty(void)
 {
     empty_cells();
     empty_memories();
-    empty_ports();
+    empty_input();
+    empty_output();
     empty_files();
     printf("empty slices: each of the eight calls, with NULL\n");
 }

@@ -88,7 +88,7 @@ struct outcome run_proved(struct world *w, uint16_t budget)
 
 bool is_step_answer(uint32_t answer)
 {
-    return answer <= PLAIN_OUTPUT_FULL && answer != 8;
+    return answer <= PLAIN_INPUT_DRY && answer != 8;
 }
 
 bool outcomes_same(struct outcome plain, struct outcome proved)

@@ -52,7 +52,7 @@ struct outcome run_proved(struct world *w, uint16_t budget);
 const uint16_t *lent_rom(const struct world *w);
 uint16_t *lent_data(const struct world *w, struct side *side);
 
-/* Whether a step has such an answer: 0 to 10 without 8, which is retired. */
+/* Whether a step has such an answer: 0 to 11 without 8, which is retired. */
 bool is_step_answer(uint32_t answer);
 
 /* The same answer, one that a step has, and the same count of steps. */
