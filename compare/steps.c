@@ -10,7 +10,7 @@
 #include <stdio.h>
 #include <string.h>
 
-enum { ANSWERS = 11 };
+enum { ANSWERS = 12 };
 
 /* The three places of answer 5 in the order of a step (D01). */
 static const char *const absent_names[3] = {
@@ -29,6 +29,8 @@ static struct world world;
 static uint16_t draw_instruction(struct draw *d)
 {
     uint32_t how = draw_below(d, 100);
+    if (how < 3)
+        return (uint16_t)(0x8000 | draw_below(d, 256)); /* IN, port 0 */
     if (how < 90)
         return draw_built_word(d);
     return how < 96 ? draw_other_word(d) : (uint16_t)draw_bits(d);
