@@ -1,7 +1,8 @@
 /*
  * Whole runs. A program is grown: where the run comes to a word that is not
  * settled, instructions are drawn until one is done and leaves a state from
- * which more can be done. The start is then run by both emulators.
+ * which more can be done. The start is then run by both emulators. A run that
+ * meets a dry port is continued with more words (D02, request 2).
  */
 #include "cases.h"
 #include "report.h"
@@ -13,7 +14,7 @@
 #include <stdio.h>
 #include <string.h>
 
-enum { ANSWERS = 11, LENGTHS = 6, TRIES = 24 };
+enum { ANSWERS = 12, LENGTHS = 6, TRIES = 24, BRINGS = 4 };
 
 static uint64_t answers[ANSWERS];
 static uint64_t lengths[LENGTHS]; /* 0, 1 on, 10 on, 100 on, 1000 on, .. */
@@ -21,6 +22,10 @@ static uint64_t steps_done;
 static uint64_t most_steps;
 static uint64_t split_runs;
 static uint64_t file_runs;
+static uint64_t continued_runs;
+static uint64_t continued_steps;
+static uint64_t calls_with_words;
+static uint64_t calls_without;
 
 static struct world world;
 static struct world start;
@@ -73,6 +78,8 @@ static uint16_t draw_fair_word(struct draw *d, const struct plain_machine *m)
         return (uint16_t)((word & 0xFF00) | (0x60 + draw_below(d, 32)));
     if ((word & 0xFF00) == 0xCB00 && draw_percent(d, 75)) /* RPTK */
         return (uint16_t)(0xCB00 | draw_below(d, 10));
+    if (plain_has_address(word) && draw_percent(d, m->rptc > 0 ? 30 : 5))
+        return (uint16_t)(0x8000 | (word & 0xFF)); /* IN, port 0 */
     return word;
 }
 
@@ -130,10 +137,12 @@ static void close_loop(struct draw *d, struct world *w, uint32_t first)
     settle_word(w, (pc + 1) & 0xFFFF, back & 0xFFFF);
 }
 
+/* The nursery has 1,024 words: a program goes on behind what will be dry. */
 static void grow(struct draw *d, struct world *w, uint32_t passes)
 {
     const struct plain_machine first = w->plain.machine;
     nursery = *w;
+    nursery.input_length = PLAIN_PORT_WORDS;
     memset(settled, 0, sizeof settled);
     for (uint32_t i = 0; i < passes; i++) {
         uint32_t pc = nursery.plain.machine.pc;
@@ -183,6 +192,14 @@ static void draw_fair_cells(struct draw *d, struct plain_machine *m)
         m->stack[i] = draw_below(d, 4096);
 }
 
+/* Few words left, half of the time: then the port runs dry. */
+static void shorten_input(struct draw *d, struct world *w)
+{
+    size_t few = w->plain.machine.input_cursor + draw_below(d, 16);
+    if (draw_percent(d, 50) && few < w->input_length)
+        w->input_length = few;
+}
+
 /* The world of a run file, as both sides set it up (D01). */
 static bool start_from_file(struct draw *d, struct world *w)
 {
@@ -194,6 +211,7 @@ static bool start_from_file(struct draw *d, struct world *w)
     w->input_length = draw_below(d, PLAIN_FILE_INPUT + 1);
     w->output_length = PLAIN_PORT_WORDS;
     plain_reset(&w->plain.machine);
+    shorten_input(d, w);
     memset(w->plain.output, 0, sizeof w->plain.output);
     memset(w->plain.data, 0, 2 * 0x400);
     memset(w->plain.data + 0x400 + data_count, 0, 2 * (0xC00 - data_count));
@@ -219,6 +237,7 @@ static void draw_start(struct draw *d, struct world *w)
         plain_reset(&w->plain.machine);
     else if (how >= 90)
         draw_cells(d, &w->plain.machine);
+    shorten_input(d, w);
     if (how < 85)
         grow(d, w, 20 + draw_below(d, 400));
 }
@@ -277,10 +296,11 @@ static void report_first_step(uint32_t steps)
     printf("  step by step the two agree\n");
 }
 
-static void report_run(uint64_t seed, uint64_t number, uint32_t budget,
-                       struct outcome plain, struct outcome proved)
+static void report_run(const char *kind, uint64_t seed, uint64_t number,
+                       uint32_t budget, struct outcome plain,
+                       struct outcome proved)
 {
-    if (!report_difference("run", seed, number))
+    if (!report_difference(kind, seed, number))
         return;
     printf("  budget %" PRIu32 ", plain's answer %" PRIu32 "\n", budget,
            plain.answer);
@@ -316,6 +336,54 @@ static struct outcome run_proved_twice(uint16_t budget, uint16_t a)
     return two;
 }
 
+/* Words behind the list: none, few or many, to 1,024 at most (D02). */
+static void bring_words(struct draw *d, struct world *w)
+{
+    uint32_t room = (uint32_t)(PLAIN_PORT_WORDS - w->input_length);
+    uint32_t how = draw_below(d, 100);
+    uint32_t count = how < 20 ? 0 : 1 + draw_below(d, how < 60 ? 8 : 1024);
+    if (count > room)
+        count = room;
+    draw_fill(d, w->input + w->input_length, count);
+    w->input_length += count;
+    calls_with_words += count > 0;
+    calls_without += count == 0;
+}
+
+/*
+ * The proved side goes on from what the dry port left, on its unused budget;
+ * the plain side makes one run of all words from the start (D02, request 2).
+ */
+static void continue_run(struct draw *d, uint16_t budget,
+                         struct outcome *plain, struct outcome *proved)
+{
+    uint32_t before = proved->steps;
+    bring_words(d, &start);
+    memcpy(world.input, start.input, sizeof world.input);
+    world.input_length = start.input_length;
+    world.plain = start.plain;
+    *plain = run_plain(&world, budget);
+    *proved = run_proved(&world, (uint16_t)(budget - before));
+    proved->steps += before;
+}
+
+/* Continues the run `out` for as long as it is dry, four times at most. */
+static void continue_case(struct draw *d, uint64_t seed, uint64_t number,
+                          uint16_t budget, struct outcome out)
+{
+    struct outcome plain = out;
+    struct outcome proved = out;
+    continued_runs++;
+    for (int i = 0; i < BRINGS && plain.answer == PLAIN_INPUT_DRY; i++) {
+        continue_run(d, budget, &plain, &proved);
+        if (outcomes_same(plain, proved) && sides_same(&world))
+            continue;
+        report_run("continued run", seed, number, budget, plain, proved);
+        return;
+    }
+    continued_steps += plain.steps - out.steps;
+}
+
 static void run_case(uint64_t seed, uint64_t number)
 {
     struct draw d = draw_case(seed, KIND_RUN, number);
@@ -334,7 +402,20 @@ static void run_case(uint64_t seed, uint64_t number)
         : run_proved(&world, budget);
     count_run(plain);
     if (!outcomes_same(plain, proved) || !sides_same(&world))
-        report_run(seed, number, budget, plain, proved);
+        report_run("run", seed, number, budget, plain, proved);
+    else if (plain.answer == PLAIN_INPUT_DRY)
+        continue_case(&d, seed, number, budget, plain);
+}
+
+static void print_continued(void)
+{
+    printf("  continued after 11: %" PRIu64 ", with new words %" PRIu64
+           " times, without %" PRIu64 ", steps %" PRIu64 "\n", continued_runs,
+           calls_with_words, calls_without, continued_steps);
+    if (calls_with_words == 0 || continued_steps == 0)
+        report_missing("a run continued with", "new words");
+    if (calls_without == 0)
+        report_missing("a run continued with", "no new words");
 }
 
 void compare_runs(uint64_t seed, uint64_t cases)
@@ -353,4 +434,5 @@ void compare_runs(uint64_t seed, uint64_t cases)
     for (int i = 1, from = 1; i < LENGTHS; i++, from *= 10)
         printf(", from %d: %" PRIu64, from, lengths[i]);
     printf("\n");
+    print_continued();
 }
