@@ -70,7 +70,7 @@ static void empty_input(void)
     expect("cursor of a dry port", 0, cells[CROWMITTEN_INPUT_CURSOR]);
 }
 
-/* OUT to a full port is refused; it was the second step. */
+/* OUT to a full port is refused, here as the second step. */
 static void empty_output(void)
 {
     uint32_t steps = OTHER;
