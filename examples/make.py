@@ -45,6 +45,17 @@ def stack_of_frames(n, overflow_mode):
     return run_file(program, 17 + n, data=[MINUS] * n)
 
 
+def copy(input):
+    """IN to OUT round a loop, up to a word that is 0: four words."""
+    return run_file([
+        0xC806,          # LDPK 6
+        0x8000,          # IN 0,0
+        0xE100,          # OUT 0,1
+        0x2000,          # LAC 0
+        0xF580, 0x0001,  # BNZ 0001h
+    ], 4 * 4 + 1, input=input)
+
+
 # every section at its most, 16,400 bytes; the last word of each is used
 LARGEST = run_file(
     [
@@ -109,14 +120,9 @@ EXAMPLES = {
         0x6002, 0xE102,  # SACL 2; OUT 2,1: the quotient
         0x6803, 0xE103,  # SACH 3; OUT 3,1: the remainder
     ], 25, input=[1000, 7]),
-    # IN to OUT round a loop until the port is dry and stores 0
-    'copy': run_file([
-        0xC806,          # LDPK 6
-        0x8000,          # IN 0,0
-        0xE100,          # OUT 0,1
-        0x2000,          # LAC 0
-        0xF580, 0x0001,  # BNZ 0001h
-    ], 4 * 4 + 1, input=[0x1234, 0xABCD, 0xFFFF]),
+    # the last word is missing, and the same run with all words
+    'copy': copy([0x1234, 0xABCD, 0xFFFF]),
+    'copy-whole': copy([0x1234, 0xABCD, 0xFFFF, 0]),
     'largest': LARGEST,
     # 1,024 words sent in 10,000 steps or more, then refused by 10: 5,145 bytes
     'longest': run_file([

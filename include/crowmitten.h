@@ -32,6 +32,7 @@ enum crowmitten_answer {
     /* 8 is retired: it is not given, and no other answer gets the number. */
     CROWMITTEN_WRONG_PORT = 9,        /* IN from a port other than 0, OUT to one other than 1 */
     CROWMITTEN_OUTPUT_FULL = 10,      /* OUT with the output slice full */
+    CROWMITTEN_INPUT_DRY = 11,        /* IN with no word left in the input slice */
     CROWMITTEN_FILE_SHORT = 20,       /* a run file of fewer than 16 bytes */
     CROWMITTEN_FILE_VERSION = 21,     /* its version is not 1 */
     CROWMITTEN_FILE_RULES = 22,       /* its counts, offsets or length are against the rules */
@@ -81,7 +82,7 @@ enum {
 /* The cells after reset, whatever they held: 0, or 2. */
 uint32_t crowmitten_reset(uint32_t *cells, size_t cells_length);
 
-/* One pass of the instruction at PC: 0 to 7, 9 or 10. */
+/* One pass of the instruction at PC: 0 to 7, or 9 to 11. */
 uint32_t crowmitten_step(uint32_t *cells, size_t cells_length,
                          const uint16_t *rom, size_t rom_length,
                          uint16_t *data, size_t data_length,
@@ -89,8 +90,10 @@ uint32_t crowmitten_step(uint32_t *cells, size_t cells_length,
                          uint16_t *output, size_t output_length);
 
 /*
- * At most budget steps, up to the first that is refused: 0 to 7, 9 or 10.
- * *steps: the steps done, the refused one not counted.
+ * At most budget steps, up to the first that is refused: 0 to 7, or 9 to 11.
+ * *steps: the steps done, the refused one not counted. After 11, a call with
+ * more words behind those of input, budget - *steps, and all else as the call
+ * left it, goes on: both calls together do what one with all the words does.
  */
 uint32_t crowmitten_run(uint32_t *cells, size_t cells_length,
                         const uint16_t *rom, size_t rom_length,

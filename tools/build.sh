@@ -1,5 +1,5 @@
 # shellcheck shell=sh disable=SC2154
-# Read by replay, examples/c/run and compare/build.sh with `top` set to the repository's folder: build_program and build_library prove and build what
+# Read by replay, examples/c/build.sh and compare/build.sh with `top` set to the repository's folder: build_program and build_library prove and build what
 # is missing or older than a source, and run_program runs a program; `tools` is the toolchain's folder for this machine, `emulator` its emulator, where programs for x86-64 need one.
 
 command -v rt >/dev/null || { echo "rt, the Rattle toolchain, is not on the path" >&2; exit 1; }

@@ -30,6 +30,7 @@ fn show_programs() {
     show(b"convolution");
     show(b"division");
     show(b"copy");
+    show(b"copy-whole");
 }
 
 // The largest file, and one whose line is the longest.

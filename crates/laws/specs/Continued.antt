@@ -34,7 +34,7 @@ use Rattle.steps.specs.Table.{decodedAt, secondWord, tableFor, checksOf, checkR
 use Rattle.steps.specs.Step.{afterStore, stepOf, oneMore, runOf}
 use Rattle.steps.specs.RowLaws.{every, every-first, row-not}
 use Rattle.steps.specs.TableLaws.{step-answer, step-world}
-use Rattle.laws.specs.Laws.{continued, withFurther, RunContinued, RunStoppedDry}
+use Rattle.laws.specs.Laws.{withFurther, ContinuedWith, RunContinued, RunStoppedDry}
 use Rattle.laws.specs.Steps.{_and_, row-given}
 use Rattle.laws.specs.Runs.{run-none, run-refused, run-done, by-first, none-before, one-before}
 
@@ -131,9 +131,7 @@ module _ (g : Given) (further : List ℕ) (l : length (g .input ++ further) ≤ 
 
   -- ---- the run
 
-  run-further : (budget : ℕ) (w : World)
-      → runOf (withFurther g further) budget w
-      ≡ continued (runOf g budget w .steps) (runOf (withFurther g further) (budget - runOf g budget w .steps) (runOf g budget w .world))
+  run-further : (budget : ℕ) (w : World) → ContinuedWith further g budget w
   run-further zero w = rw (run-none g w) (none-before (runOf (withFurther g further) 0 w))
   run-further (suc n) w = by-first g w
       (λ d.

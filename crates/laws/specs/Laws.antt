@@ -95,13 +95,6 @@ PortBeforeData = (g : Given) (w : World) (i : Instruction) → Meets g w i
     → wrongPort (traitsOf i .port) ≡ true → dataAbsent (traitsOf i) (addressOf (traitsOf i .operand) (w .m)) (w .m) ≡ true
     → numberOf (stepOf g w .answer) ≡ 9
 
--- 9, 11: an IN from a port other than 0, with the input dry
-abbrev pub PortBeforeDry : Type 0
-PortBeforeDry = (g : Given) (w : World) (i : Instruction) → Meets g w i
-    → notRepeatable (w .m) i ≡ false → secondAbsent (w .m) i ≡ false
-    → wrongPort (traitsOf i .port) ≡ true → inputDry (traitsOf i) (length (g .input)) (w .m) ≡ true
-    → numberOf (stepOf g w .answer) ≡ 9
-
 -- 6, 11: an IN to an address that is absent, with the input dry
 abbrev pub DataBeforeDry : Type 0
 DataBeforeDry = (g : Given) (w : World) (i : Instruction) → Meets g w i
@@ -163,12 +156,15 @@ pub record RunsAdd (g : Given) (a b : ℕ) (w : World) : Type 0 where
 abbrev pub withFurther : Given → List ℕ → Given
 withFurther g further = record { rom = g .rom; input = g .input ++ further }
 
--- "A run continued so, on its unused budget and with the earlier words in front, equals the run that had all words from the start." It does whatever ended the
--- first run, and though the further words are none. All words together are at most 1,024: where they are more, check 2 refuses the longer run (ruling D2).
-abbrev pub RunContinued : Type 0
-RunContinued = (g : Given) (further : List ℕ) (budget : ℕ) (w : World) → length (g .input ++ further) ≤ 1024
-    → runOf (withFurther g further) budget w
+-- "A run continued so, on its unused budget and with the earlier words in front, equals the run that had all words from the start."
+abbrev pub ContinuedWith : List ℕ → Given → ℕ → World → Type 0
+ContinuedWith further g budget w = runOf (withFurther g further) budget w
     ≡ continued (runOf g budget w .steps) (runOf (withFurther g further) (budget - runOf g budget w .steps) (runOf g budget w .world))
+
+-- It does whatever ended the first run, and though the further words are none. All words together are at most 1,024: where they are more, check 2 refuses the
+-- longer run (ruling D2).
+abbrev pub RunContinued : Type 0
+RunContinued = (g : Given) (further : List ℕ) (budget : ℕ) (w : World) → length (g .input ++ further) ≤ 1024 → ContinuedWith further g budget w
 
 -- "A dry port must stop the run where it is .. so that the operator can supply the remaining words and go on from the same state"
 pub record StoppedDry (g : Given) (budget : ℕ) (w : World) : Type 0 where
