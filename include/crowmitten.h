@@ -92,8 +92,9 @@ uint32_t crowmitten_step(uint32_t *cells, size_t cells_length,
 /*
  * At most budget steps, up to the first that is refused: 0 to 7, or 9 to 11.
  * *steps: the steps done, the refused one not counted. After 11, a call with
- * more words behind those of input, budget - *steps, and all else as the call
- * left it, goes on: both calls together do what one with all the words does.
+ * more words behind those of input (at most 1,024 together), budget - *steps,
+ * and all else as this call left it goes on: both calls together do what one
+ * call with all the words does.
  */
 uint32_t crowmitten_run(uint32_t *cells, size_t cells_length,
                         const uint16_t *rom, size_t rom_length,

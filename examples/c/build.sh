@@ -13,9 +13,8 @@ build_example() {
         compiler=${CC:-x86_64-linux-gnu-gcc}
         static=-static
     fi
-    sources="$here/$1.c $here/board.c"
-    if [ ! -x "$program" ] || [ -n "$(find "$library" $sources "$here/board.h" "$top/include/crowmitten.h" -newer "$program")" ]; then
+    if [ ! -x "$program" ] || [ -n "$(find "$library" "$here/$1.c" "$here/board.c" "$here/board.h" "$top/include/crowmitten.h" -newer "$program")" ]; then
         mkdir -p "$top/target/c"
-        "$compiler" -std=c99 -Wall -Wextra -O2 $static -I"$top/include" -o "$program" $sources "$library"
+        "$compiler" -std=c99 -Wall -Wextra -O2 $static -I"$top/include" -o "$program" "$here/$1.c" "$here/board.c" "$library"
     fi
 }

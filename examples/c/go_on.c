@@ -9,29 +9,36 @@
 #include <inttypes.h>
 #include <stdio.h>
 #include <stdlib.h>
+#include <string.h>
 
 static struct board board;
 
-/* Hexadecimal words behind those that are there: 0, or 1 where one is no word or there is no room. */
+static int is_word(const char *text)
+{
+    size_t digits = strspn(text, "0123456789ABCDEFabcdef");
+
+    return digits >= 1 && digits <= 4 && text[digits] == '\0';
+}
+
+/* Whether there was room for all of them behind the words that are there. */
 static int add_words(struct board *b, char **words)
 {
-    for (; *words != NULL; words++) {
-        char *end;
-        unsigned long word = strtoul(*words, &end, 16);
-
-        if (end == *words || *end != '\0' || word > 0xFFFF
-            || b->input_count == CROWMITTEN_PORT_WORDS_MAX)
-            return 1;
-        b->input[b->input_count++] = (uint16_t)word;
-    }
-    return 0;
+    for (; *words != NULL && b->input_count < CROWMITTEN_PORT_WORDS_MAX; words++)
+        b->input[b->input_count++] = (uint16_t)strtoul(*words, NULL, 16);
+    return *words == NULL;
 }
 
 int main(int argc, char **argv)
 {
-    uint32_t answer = set_up_board(&board), steps, further_steps;
+    uint32_t answer, steps, further_steps;
+    int i;
 
-    (void)argc;
+    for (i = 1; i < argc; i++)
+        if (!is_word(argv[i])) {
+            fprintf(stderr, "%s: a word is one to four hexadecimal digits\n", argv[i]);
+            return 2;
+        }
+    answer = set_up_board(&board);
     if (answer != CROWMITTEN_DONE) {
         printf("%" PRIu32 "\n", answer);
         return 0;
@@ -40,8 +47,8 @@ int main(int argc, char **argv)
     print_line(&board, answer, steps);
     if (answer != CROWMITTEN_INPUT_DRY)
         return 0;
-    if (add_words(&board, argv + 1) != 0) {
-        fprintf(stderr, "words of four hexadecimal digits, 1,024 of input at most\n");
+    if (!add_words(&board, argv + 1)) {
+        fprintf(stderr, "an input has at most %d words\n", CROWMITTEN_PORT_WORDS_MAX);
         return 2;
     }
     /* The cells, the memories and the output are as the first run left them. */

@@ -140,13 +140,17 @@ longer-fits m rom d input longer outputLength h most fits =
     let q = both-hold (memoriesFit rom d) _ (p .0) in
     rw (q .0, le-leb _ _ most, le-leb (m .«input_cursor») (length longer) (omega (arith, past, h)), p .1)
 
--- a port that is used and not spent has words left
-pub words-left : (used : Bool) (size cursor : ℕ) → used && portSpent size cursor ≡ false → used ≡ true → cursor < size
+-- a port that is used and not spent has a word, or a place, at its cursor; one that is spent has none
+pub port-left : (used : Bool) (size cursor : ℕ) → used && portSpent size cursor ≡ false → used ≡ true → cursor < size
 unfolding portSpent
-words-left true size cursor h e = leb-false _ _ h
-words-left false size cursor h e = absurd (false≢true e)
+port-left true size cursor h e = leb-false _ _ h
+port-left false size cursor h e = absurd (false≢true e)
 
-pub none-left : (used : Bool) (size cursor : ℕ) → used && portSpent size cursor ≡ true → size ≤ cursor
+pub record PortEnded (used : Bool) (size cursor : ℕ) : Type 0 where
+  pub is-used : used ≡ true
+  pub at-end : size ≤ cursor
+
+pub port-ended : (used : Bool) (size cursor : ℕ) → used && portSpent size cursor ≡ true → PortEnded used size cursor
 unfolding portSpent
-none-left true size cursor h = leb-true _ _ h
-none-left false size cursor h = absurd (false≢true h)
+port-ended true size cursor h = record { is-used = refl; at-end = leb-true _ _ h }
+port-ended false size cursor h = absurd (false≢true h)

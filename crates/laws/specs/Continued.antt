@@ -1,15 +1,14 @@
--- A run that a dry port stopped, and its continuation with further words: proofs.
+-- A run with further words behind its input: proofs.
 use mathlib.Core.Path.{_≡_, refl, sym, _∙_, ap}
-use mathlib.Core.Bool.{Bool, true, false, not, cond, _&&_, false≢true}
-use mathlib.Core.List.{List, [], _∷_, _++_, append-nil}
-use Prim.Native.Nat.{ℕ, zero, suc, _+_, _-_, _≤_, _<_}
+use mathlib.Core.Bool.{Bool, true, false, not, _&&_, false≢true}
+use mathlib.Core.List.{List, _++_}
+use Prim.Native.Nat.{ℕ, zero, suc, _+_, _-_, _≤_}
 use native.Mathlib.Omega.{arith}
-use lib.Dec.{eqb}
 use lib.ListN.{length, length-append, List·getD-append}
 use borrow.Author.Tests.{lt-leb, not-false}
 use Rattle.machine.specs.declared.Machine.{Machine}
-use Rattle.answers.specs.declared.Answer.the-variants.{Done, InputDry}
-use Rattle.answers.specs.Numbers.{numberOf, isDone}
+use Rattle.answers.specs.declared.Answer.the-variants.{Done}
+use Rattle.answers.specs.Numbers.{isDone}
 use Rattle.answers.specs.NumberLaws.{done-is}
 use Rattle.instructions.specs.declared.Instruction.{Instruction}
 use Rattle.instructions.specs.declared.Instruction.the-variants as Family
@@ -19,22 +18,22 @@ use Rattle.instructions.specs.declared.Decoded.{Decoded}
 use Rattle.instructions.specs.declared.Decoded.the-variants.{Built, Unbuilt, Nothing}
 use Rattle.pages.specs.declared.Words.{Words}
 use Rattle.pages.specs.Traits.{transfersTraits, traitsOf}
-use Rattle.pages.specs.Addressing.{addressed, addressOf}
+use Rattle.pages.specs.Addressing.{addressed}
 use Rattle.pages.specs.Rules.{ruleOf}
 use Rattle.pages.specs.TransfersRule.{transfersRule}
 use Rattle.board.specs.Given.{Given}
 use Rattle.board.specs.Slices.{portSpent}
-use Rattle.board.specs.SliceLaws.{slices-fit, longer-fits, words-left, none-left}
-use Rattle.steps.specs.Rows.{Row, row, firstGiven, NoneHolds}
+use Rattle.board.specs.SliceLaws.{longer-fits, port-left}
+use Rattle.steps.specs.Rows.{NoneHolds}
 use Rattle.steps.specs.Refusals.{takes, inputDry, passRows, accessRows, restRows}
 use Rattle.steps.specs.Pass.{wordsRead, effectOf, passedMachine, passedWrite, performed}
 use Rattle.steps.specs.declared.Plan.{Plan}
 use Rattle.steps.specs.World.{World}
-use Rattle.steps.specs.Table.{decodedAt, secondWord, tableFor, checksOf, checkRows, fetchRows, encodingRows, instructionRows, repeatRows}
+use Rattle.steps.specs.Table.{decodedAt, secondWord, tableFor, checkRows, fetchRows, encodingRows, instructionRows, repeatRows}
 use Rattle.steps.specs.Step.{afterStore, stepOf, oneMore, runOf}
-use Rattle.steps.specs.RowLaws.{every, every-first, row-not}
-use Rattle.steps.specs.TableLaws.{step-answer, step-world}
-use Rattle.laws.specs.Laws.{withFurther, ContinuedWith, RunContinued, RunStoppedDry}
+use Rattle.steps.specs.RowLaws.{row-not}
+use Rattle.steps.specs.TableLaws.{step-world}
+use Rattle.laws.specs.Laws.{withFurther, ContinuedWith, RunContinued}
 use Rattle.laws.specs.Steps.{_and_, row-given}
 use Rattle.laws.specs.Runs.{run-none, run-refused, run-done, by-first, none-before, one-before}
 
@@ -66,7 +65,7 @@ module _ (g : Given) (further : List ℕ) (l : length (g .input ++ further) ≤ 
 
   left-further : (used : Bool) (cursor : ℕ) → used && portSpent (length (g .input)) cursor ≡ false → used && portSpent (length (g .input ++ further)) cursor ≡ false
   unfolding portSpent
-  left-further true cursor h = lt-leb (length (g .input ++ further)) cursor (omega (arith, words-left true (length (g .input)) cursor h refl, longer))
+  left-further true cursor h = lt-leb (length (g .input ++ further)) cursor (omega (arith, port-left true (length (g .input)) cursor h refl, longer))
   left-further false cursor h = refl
 
   -- the table of a built instruction: further words change rows 2 and 11 alone, and neither holds
@@ -95,7 +94,7 @@ module _ (g : Given) (further : List ℕ) (l : length (g .input ++ further) ≤ 
   unfolding effectOf wordsRead inputDry nextIs
   effect-further i second d m dry =
       rule-next i m (addressed (traitsOf i .operand) m) (wordsRead (traitsOf i) second g d m)
-      (λ taken. List·getD-append (g .input) further 0 (m .«input_cursor») (words-left (takes (traitsOf i .port)) (length (g .input)) (m .«input_cursor») dry taken))
+      (λ taken. List·getD-append (g .input) further 0 (m .«input_cursor») (port-left (takes (traitsOf i .port)) (length (g .input)) (m .«input_cursor») dry taken))
 
   performed-further : (i : Instruction) (second : ℕ) (d : List ℕ) (m : Machine) → inputDry (traitsOf i) (length (g .input)) m ≡ false
       → performed (traitsOf i) i second (withFurther g further) d m ≡ performed (traitsOf i) i second g d m
@@ -147,80 +146,3 @@ module _ (g : Given) (further : List ℕ) (l : length (g .input ++ further) ≤ 
 
 pub run-continued : RunContinued
 run-continued g further budget w l = run-further g further l budget w
-
--- ---- a run that is stopped dry
-
--- Test: a row's answer is not 11.
-notDry : Row → Bool
-notDry r = not (eqb (numberOf (r .answer)) 11)
-
--- where a table gives 11 and its first rows have other answers, none of them holds, and the rest gives 11
-reached : (rows rest : List Row) → every notDry rows ≡ true → firstGiven (rows ++ rest) ≡ InputDry → NoneHolds rows × (firstGiven rest ≡ InputDry)
-unfolding firstGiven notDry
-reached [] rest h e = (tt, e)
-reached (r ∷ rows) rest h e = let both = every-first notDry r rows h in by (r .given) refl (both .0) (reached rows rest (both .1)) e
-  where
-    by : (t : Bool) → r .given ≡ t → notDry r ≡ true → (firstGiven (rows ++ rest) ≡ InputDry → NoneHolds rows × (firstGiven rest ≡ InputDry))
-        → cond t (r .answer) (firstGiven (rows ++ rest)) ≡ InputDry → NoneHolds (r ∷ rows) × (firstGiven rest ≡ InputDry)
-    by true g other next e = absurd (false≢true (rw e at other))
-    by false g other next e = ((g, next e .0), next e .1)
-
-never-dry : (rows : List Row) → every notDry rows ≡ true → firstGiven rows ≡ InputDry → ⊥
-unfolding firstGiven
-never-dry rows h e = false≢true (ap isDone (sym (reached rows [] h (rw append-nil e) .1)))
-
-row-11-holds : (dry : Bool) (rest : List Row) → every notDry rest ≡ true → firstGiven (row "11" InputDry dry ∷ rest) ≡ InputDry → dry ≡ true
-unfolding firstGiven
-row-11-holds true rest h e = refl
-row-11-holds false rest h e = absurd (never-dry rest h e)
-
--- 11 is given only where the cursor is at the input's end
-module _ (g : Given) (d : List ℕ) (outputLength : ℕ) (m : Machine) where
-  rowsBefore11 : Instruction → List Row
-  rowsBefore11 i = checkRows g d outputLength m ++ fetchRows m ++ encodingRows (Built i) ++ repeatRows i m ++ accessRows (traitsOf i) (addressOf (traitsOf i .operand) m) m
-
-  built-at-end : (i : Instruction) → firstGiven (tableFor (Built i) g d outputLength m) ≡ InputDry → m .«input_cursor» ≡ length (g .input)
-  unfolding rowsBefore11 tableFor checkRows fetchRows encodingRows instructionRows repeatRows passRows accessRows restRows notDry inputDry
-  built-at-end i e =
-      let r = reached (rowsBefore11 i) (restRows (traitsOf i) (secondWord i g d m) (length (g .input)) outputLength m) refl e in
-      let not-past = slices-fit m (g .rom) d (g .input) outputLength (not-false _ (row-not (rowsBefore11 i) "2" (r .0))) .input-port .not-past in
-      let spent = none-left (takes (traitsOf i .port)) (length (g .input)) (m .«input_cursor») (row-11-holds _ _ refl (r .1)) in
-      omega (arith, not-past, spent)
-
-  decoded-at-end : (x : Decoded) → firstGiven (tableFor x g d outputLength m) ≡ InputDry → m .«input_cursor» ≡ length (g .input)
-  unfolding tableFor checkRows fetchRows encodingRows instructionRows notDry
-  decoded-at-end (Built i) e = built-at-end i e
-  decoded-at-end Unbuilt e = absurd (never-dry (tableFor Unbuilt g d outputLength m) refl e)
-  decoded-at-end Nothing e = absurd (never-dry (tableFor Nothing g d outputLength m) refl e)
-
-at-end : (g : Given) (w : World) → stepOf g w .answer ≡ InputDry → w .m .«input_cursor» ≡ length (g .input)
-at-end g w e = decoded-at-end g (w .«data») (length (w .output)) (w .m) (decodedAt g (w .«data») (w .m)) (sym (step-answer g w) ∙ e)
-
--- where a run ends so: before its budget, at a step that is dry
-record EndsDry (g : Given) (budget : ℕ) (w : World) : Type 0 where
-  unused : runOf g budget w .steps < budget
-  step-dry : stepOf g (runOf g budget w .world) .answer ≡ InputDry
-
-ends-dry : (g : Given) (budget : ℕ) (w : World) → runOf g budget w .answer ≡ InputDry → EndsDry g budget w
-unfolding checksOf checkRows notDry
-ends-dry g zero w h = absurd (never-dry (checkRows g (w .«data») (length (w .output)) (w .m)) refl (rw run-none at h))
-ends-dry g (suc n) w h = by-first g w
-    (λ d.
-    let run = run-done g n w d in
-    let after = ends-dry g n (stepOf g w .world) (rw run at h) in
-    record { unused = rw run (omega (arith, after .unused)); step-dry = rw run (after .step-dry) })
-    (λ r.
-    let run = run-refused g n w r in
-    record { unused = rw run (omega arith); step-dry = rw run (rw run at h) })
-
-pub run-stopped-dry : RunStoppedDry
-run-stopped-dry g budget w h =
-    let end = ends-dry g budget w h in
-    record {
-      unused = end .unused;
-      dry-again = λ n. run-refused g n (runOf g budget w .world) (ap isDone (end .step-dry)) ∙ rw (end .step-dry);
-      dry-no-more = λ word others e.
-          let here = at-end g (runOf g budget w .world) (end .step-dry) in
-          let there = at-end (withFurther g (word ∷ others)) (runOf g budget w .world) e in
-          omega (arith, here, there, length-append (g .input) (word ∷ others));
-    }

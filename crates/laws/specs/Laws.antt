@@ -9,9 +9,12 @@ use lib.Dec.{eqb}
 use denote.Ref.{RefT, ptr, now}
 use Rattle.alu.specs.Registers.{wrappedSum}
 use Rattle.machine.specs.declared.Machine.{Machine}
+use Rattle.operands.specs.declared.Address.{Address}
 use Rattle.machine.specs.Cells.{withPc, withMid, withRptc}
 use Rattle.machine.specs.Range.{inRange}
 use Rattle.instructions.specs.declared.Instruction.{Instruction}
+use Rattle.instructions.specs.declared.Instruction.the-variants.{Transfers}
+use Rattle.instructions.specs.declared.Transfers.the-variants.{In}
 use Rattle.instructions.specs.declared.Decoded.the-variants.{Built, Nothing}
 use Rattle.pages.specs.Traits.{traitsOf}
 use Rattle.pages.specs.Addressing.{addressOf}
@@ -95,6 +98,12 @@ PortBeforeData = (g : Given) (w : World) (i : Instruction) → Meets g w i
     → wrongPort (traitsOf i .port) ≡ true → dataAbsent (traitsOf i) (addressOf (traitsOf i .operand) (w .m)) (w .m) ≡ true
     → numberOf (stepOf g w .answer) ≡ 9
 
+-- 9, 11: an IN from a port other than 0, with the input dry
+abbrev pub PortBeforeDry : Type 0
+PortBeforeDry = (g : Given) (w : World) (i : Instruction) → Meets g w i
+    → notRepeatable (w .m) i ≡ false → secondAbsent (w .m) i ≡ false
+    → wrongPort (traitsOf i .port) ≡ true → inputDry (traitsOf i) (length (g .input)) (w .m) ≡ true → numberOf (stepOf g w .answer) ≡ 9
+
 -- 6, 11: an IN to an address that is absent, with the input dry
 abbrev pub DataBeforeDry : Type 0
 DataBeforeDry = (g : Given) (w : World) (i : Instruction) → Meets g w i
@@ -161,19 +170,29 @@ abbrev pub ContinuedWith : List ℕ → Given → ℕ → World → Type 0
 ContinuedWith further g budget w = runOf (withFurther g further) budget w
     ≡ continued (runOf g budget w .steps) (runOf (withFurther g further) (budget - runOf g budget w .steps) (runOf g budget w .world))
 
--- It does whatever ended the first run, and though the further words are none. All words together are at most 1,024: where they are more, check 2 refuses the
--- longer run (ruling D2).
+-- It holds whatever ended the first run, and also where there are no further words. All words together are at most 1,024: where they are more, check 2 refuses
+-- the longer run (ruling D2).
 abbrev pub RunContinued : Type 0
 RunContinued = (g : Given) (further : List ℕ) (budget : ℕ) (w : World) → length (g .input ++ further) ≤ 1024 → ContinuedWith further g budget w
 
--- "A dry port must stop the run where it is .. so that the operator can supply the remaining words and go on from the same state"
+-- a world in which the next step is an IN from port 0, and the cursor is at the end of the input
+pub record AtDryPort (g : Given) (w : World) : Type 0 where
+  pub operand : Address
+  pub word-is : decodedAt g (w .«data») (w .m) ≡ Built (Transfers (In 0 operand))
+  pub cursor-at-end : w .m .«input_cursor» ≡ length (g .input)
+
+-- "A dry port must stop the run where it is, with nothing stored, so that the operator can supply the remaining words and go on from the same state"
 pub record StoppedDry (g : Given) (budget : ℕ) (w : World) : Type 0 where
   -- some of the budget is left
   pub unused : runOf g budget w .steps < budget
-  -- without a further word it is dry again at once
+  -- the world is what the steps done have left, and the IN that was refused is next
+  pub steps-done : AllDone g (runOf g budget w .steps) w
+  pub where-it-is : runOf g budget w .world ≡ worldAfter g (runOf g budget w .steps) w
+  pub at-in : AtDryPort g (runOf g budget w .world)
+  -- without a further word it is dry again at once, and with one or more that step is done
   pub dry-again : (n : ℕ) → runOf g (suc n) (runOf g budget w .world) ≡ record { world = runOf g budget w .world; steps = 0; answer = InputDry }
-  -- and with one it is not
-  pub dry-no-more : (word : ℕ) (others : List ℕ) → stepOf (withFurther g (word ∷ others)) (runOf g budget w .world) .answer ≡ InputDry → ⊥
+  pub goes-on : (word : ℕ) (others : List ℕ) → length (g .input ++ (word ∷ others)) ≤ 1024
+      → stepOf (withFurther g (word ∷ others)) (runOf g budget w .world) .answer ≡ Done
 
 abbrev pub RunStoppedDry : Type 0
 RunStoppedDry = (g : Given) (budget : ℕ) (w : World) → runOf g budget w .answer ≡ InputDry → StoppedDry g budget w

@@ -7,5 +7,7 @@ pub mod Runs
 pub mod Repeats
 pub mod OperandLaws
 pub mod RepeatingLaws
+pub mod Inputs
 pub mod Continued
+pub mod StoppedDry
 pub mod Windows

@@ -21,7 +21,7 @@ use Rattle.steps.specs.Step.{pagePlan, planOf, afterStore, stepOf, rowsOf}
 use Rattle.steps.specs.RowLaws.{every, every-first, none-done, none-from, none-append, plan-by-first}
 use Rattle.steps.specs.Refusals.{passRows, accessRows, restRows}
 use Rattle.steps.specs.TableLaws.{step-answer, rows-refuse}
-use Rattle.laws.specs.Laws.{RefusedUnchanged, AnswersOfAStep, GivenBy, RowGiven, RepeatBeforeSecondWord, PortBeforeData, DataBeforeDry, PresenceBeforeEncoding, isAmong, stepNumbers}
+use Rattle.laws.specs.Laws.{RefusedUnchanged, AnswersOfAStep, GivenBy, RowGiven, RepeatBeforeSecondWord, PortBeforeData, PortBeforeDry, DataBeforeDry, PresenceBeforeEncoding, isAmong, stepNumbers}
 use Rattle.board.specs.Given.{Given}
 
 -- facts one after another
@@ -120,6 +120,11 @@ repeat-before-second-word g w i s repeated absent =
 pub port-before-data : PortBeforeData
 unfolding firstGiven tableFor checkRows fetchRows encodingRows instructionRows repeatRows passRows accessRows
 port-before-data g w i s repeats present wrong absent =
+    rw (step-answer g w, s .word-is, s .cells-in-range, s .slices-of-size, s .word-present, repeats, present, wrong)
+
+pub port-before-dry : PortBeforeDry
+unfolding firstGiven tableFor checkRows fetchRows encodingRows instructionRows repeatRows passRows accessRows
+port-before-dry g w i s repeats present wrong dry =
     rw (step-answer g w, s .word-is, s .cells-in-range, s .slices-of-size, s .word-present, repeats, present, wrong)
 
 pub data-before-dry : DataBeforeDry

@@ -40,7 +40,7 @@ pub struct Words {
     // The program word of a MAC or MACD, and the address that it was read at.
     pub table: u16,
     pub at: u16,
-    // The next word of the input.
+    // The next word of the input, 0 where there is none: an IN is refused then.
     pub next: u16,
 }
 

@@ -23,7 +23,7 @@ use Rattle.pages.specs.Traits.{traitsOf}
 use Rattle.pages.specs.Addressing.{addressOf}
 use Rattle.board.specs.Regions.{moveAllowed}
 use Rattle.board.specs.Slices.{memoriesFit, portFits, slicesFit}
-use Rattle.board.specs.SliceLaws.{slices-fit, words-left}
+use Rattle.board.specs.SliceLaws.{slices-fit, port-left}
 use Rattle.board.specs.Given.{Given}
 use Rattle.steps.specs.declared.Write.{Write}
 use Rattle.steps.specs.declared.Write.the-variants as Write
@@ -152,8 +152,8 @@ module _ (g : Given) (w : World) (k : WorldInRange g w) (e : stepOf g w .answer 
   unfolding afterStore performed inputDry outputFull
   built-in-range x c fields dry full =
       let s = slices-fit (w .m) (g .rom) (w .«data») (g .input) (length (w .output)) (k .slices-fit) in
-      let more = words-left (takes (traitsOf x .port)) (length (g .input)) (w .m .«input_cursor») dry in
-      let room = words-left (sends (traitsOf x .port)) (length (w .output)) (w .m .«output_cursor») full in
+      let more = port-left (takes (traitsOf x .port)) (length (g .input)) (w .m .«input_cursor») dry in
+      let room = port-left (sends (traitsOf x .port)) (length (w .output)) (w .m .«output_cursor») full in
       let f = cells-fit g w k in
       let write = passedWrite (traitsOf x) x (secondWord x g (w .«data») (w .m)) g (w .«data») (w .m) in
       let after = slices-kept write (w .«data») (w .output)

@@ -47,7 +47,7 @@ fn is_wrong_port(port: Port) -> bool
     }
 }
 
-fn is_taken(port: Port) -> bool
+fn is_input(port: Port) -> bool
     ensures { λ r. ⌜ r ≡ takes port ⌝ }
 {
     match port {
@@ -117,12 +117,13 @@ fn rest_refusal(
 {
     let port = t.port;
     let spent = is_port_spent(port, input_length, output_length, m);
-    if spent & is_taken(port) {
+    if spent & is_input(port) {
         return Answer::InputDry;
     }
     if is_program_absent(t.table, m.cnf, table_address(m, second)) {
         return Answer::ProgramAbsent;
     }
+    // An IN has been answered above: this is an OUT.
     if spent {
         return Answer::OutputFull;
     }

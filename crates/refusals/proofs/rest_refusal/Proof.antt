@@ -7,7 +7,7 @@ use Rattle.refusals.proofs.rest_refusal.Tie as tie
 
 returns : tie.Need-returns
 unfolding inputDry tableAbsent outputFull
-returns c = rw (rest-first, ← c .before .before .is-port-spent .ensures, ← c .before .is-taken .ensures, c .if1 .taken)
+returns c = rw (rest-first, ← c .before .before .is-port-spent .ensures, ← c .before .is-input .ensures, c .if1 .taken)
 
 returns-2 : tie.Need-returns-2
 unfolding inputDry tableAbsent outputFull
@@ -15,7 +15,7 @@ returns-2 c =
     rw (
       rest-first,
       ← c .before .before .before .before .before .is-port-spent .ensures,
-      ← c .before .before .before .before .is-taken .ensures,
+      ← c .before .before .before .before .is-input .ensures,
       ← c .before .before .table-address .ensures,
       ← c .before .is-program-absent .ensures,
       c .before .before .before .if1 .left,
@@ -28,7 +28,7 @@ returns-3 c =
     rw (
       rest-first,
       ← c .before .before .before .before .before .before .is-port-spent .ensures,
-      ← c .before .before .before .before .before .is-taken .ensures,
+      ← c .before .before .before .before .before .is-input .ensures,
       ← c .before .before .before .table-address .ensures,
       ← c .before .before .is-program-absent .ensures,
       c .before .before .before .before .if1 .left,
@@ -42,7 +42,7 @@ returns-4 c =
     rw (
       rest-first,
       ← c .before .before .before .before .before .before .is-port-spent .ensures,
-      ← c .before .before .before .before .before .is-taken .ensures,
+      ← c .before .before .before .before .before .is-input .ensures,
       ← c .before .before .before .table-address .ensures,
       ← c .before .before .is-program-absent .ensures,
       c .before .before .before .before .if1 .left,

@@ -1,7 +1,7 @@
 use Rattle.steps.specs.Refusals.{takes}
 use borrow.Author.Needs.{needs}
-use Rattle.refusals.proofs.is_taken.Statement.{statement}
-use Rattle.refusals.proofs.is_taken.Tie as tie
+use Rattle.refusals.proofs.is_input.Statement.{statement}
+use Rattle.refusals.proofs.is_input.Tie as tie
 
 returns : tie.Need-returns
 unfolding takes
@@ -15,8 +15,8 @@ returns-3 : tie.Need-returns-3
 unfolding takes
 returns-3 c = rw (c .enum-told3 .given .1)
 
-pub is-taken-spec : {M : Type 1} → statement M
-is-taken-spec =
+pub is-input-spec : {M : Type 1} → statement M
+is-input-spec =
     tie.close
     (tie.spec
     (λ c. search needs)
