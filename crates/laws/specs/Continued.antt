@@ -33,7 +33,7 @@ use Rattle.steps.specs.Table.{decodedAt, secondWord, tableFor, checkRows, fetch
 use Rattle.steps.specs.Step.{afterStore, stepOf, oneMore, runOf}
 use Rattle.steps.specs.RowLaws.{row-not}
 use Rattle.steps.specs.TableLaws.{step-world}
-use Rattle.laws.specs.Laws.{withFurther, ContinuedWith, RunContinued}
+use Rattle.laws.specs.Laws.{continued, withFurther, ContinuedWith, RunContinued}
 use Rattle.laws.specs.Steps.{_and_, row-given}
 use Rattle.laws.specs.Runs.{run-none, run-refused, run-done, by-first, none-before, one-before}
 
@@ -136,13 +136,18 @@ module _ (g : Given) (further : List ℕ) (l : length (g .input ++ further) ≤ 
       (λ d.
       let s = step-further w (done-is _ d) in
       let after = stepOf g w .world in
-      let less : suc n - suc (runOf g n after .steps) ≡ n - runOf g n after .steps = omega arith in
+      let k = runOf g n after .steps in
+      let same : n - k ≡ suc n - suc k = omega arith in
       run-done (withFurther g further) n w (ap isDone (s .answer-same))
       ∙ (ap (λ (v : World). oneMore (runOf (withFurther g further) n v)) (s .world-same)
-      ∙ (ap oneMore (run-further n after) ∙ rw (run-done g n w d, less) (one-before (runOf g n after .steps) _))))
+      ∙ (ap oneMore (run-further n after)
+      ∙ rw (run-done g n w d)
+      (one-before k (runOf (withFurther g further) (n - k) (runOf g n after .world))
+      ∙ ap (λ (left : ℕ). continued (suc k) (runOf (withFurther g further) left (runOf g n after .world))) same))))
       (λ r.
-      let whole : suc n - 0 ≡ suc n = omega arith in
-      rw (run-refused g n w r, whole) (none-before (runOf (withFurther g further) (suc n) w)))
+      let whole : suc n ≡ suc n - 0 = omega arith in
+      rw (run-refused g n w r)
+      (none-before (runOf (withFurther g further) (suc n) w) ∙ ap (λ (left : ℕ). continued 0 (runOf (withFurther g further) left w)) whole))
 
 pub run-continued : RunContinued
 run-continued g further budget w l = run-further g further l budget w
