@@ -103,6 +103,29 @@ uint32_t crowmitten_run(uint32_t *cells, size_t cells_length,
                         uint16_t *output, size_t output_length,
                         uint16_t budget, uint32_t *steps);
 
+/* What a run hands out: one number each, in this order. */
+enum crowmitten_result {
+    CROWMITTEN_STEPS = 0,  /* the steps done, the refused one not counted */
+    CROWMITTEN_READS = 1,  /* their data reads from external RAM, 0400h to 0FFFh */
+    CROWMITTEN_WRITES = 2, /* their data writes to it */
+    CROWMITTEN_RESULTS = 3
+};
+
+/*
+ * A run, with all that it hands out, at its place in results: 2 if
+ * results_length is not CROWMITTEN_RESULTS, before anything else, and results
+ * is left as it is; else what crowmitten_run returns. A step reads at most one
+ * data word and writes at most one; a refused step counts nothing. With budget
+ * 1 this is crowmitten_step, with the step's own counts.
+ */
+uint32_t crowmitten_run_with(uint32_t *cells, size_t cells_length,
+                             const uint16_t *rom, size_t rom_length,
+                             uint16_t *data, size_t data_length,
+                             const uint16_t *input, size_t input_length,
+                             uint16_t *output, size_t output_length,
+                             uint16_t budget,
+                             uint32_t *results, size_t results_length);
+
 /* The words sent are the first *count words of output: 0, 1 or 2. */
 uint32_t crowmitten_words_sent(const uint32_t *cells, size_t cells_length,
                                const uint16_t *output, size_t output_length,
