@@ -1,4 +1,5 @@
 pub mod Regions
+pub mod Finding
 pub mod Slices
 pub mod Windows
 pub mod Given

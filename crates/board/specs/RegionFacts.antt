@@ -4,7 +4,7 @@ use mathlib.Core.Bool.{true}
 use Prim.Native.Nat.{ℕ, _+_, _≤_, _<_}
 use Rattle.board.specs.declared.Region.{Region}
 use Rattle.board.specs.declared.Region.the-variants.{Absent, B2, B0, B1, External}
-use Rattle.board.specs.Regions.{onChip}
+use Rattle.board.specs.Regions.{onChipRegion, onChip}
 
 -- what its region says of a data address
 abbrev pub Lies : ℕ → ℕ → Region → Type 0
@@ -14,9 +14,9 @@ Lies cnf a B0 = (0x200 ≤ a) × (a ≤ 0x2FF) × (cnf ≡ 0)
 Lies cnf a B1 = (0x300 ≤ a) × (a ≤ 0x3FF)
 Lies cnf a External = (0x400 ≤ a) × (a ≤ 0xFFF)
 
--- a data move is made
-pub record Moves (cnf a : ℕ) : Type 0 where
-  pub from : onChip cnf a ≡ true
+-- a data move is made, of a word that was found in this region
+pub record Moves (region : Region) (cnf a : ℕ) : Type 0 where
+  pub from : onChipRegion region ≡ true
   pub to : onChip cnf (a + 1) ≡ true
   pub below : a + 1 < 1024
 

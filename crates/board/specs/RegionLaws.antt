@@ -1,13 +1,14 @@
 -- Where the addresses of each region lie; B0 is never in both spaces; a data move stays on chip.
 use mathlib.Core.Path.{_≡_, refl, subst}
-use mathlib.Core.Bool.{Bool, true, false, cond, false≢true}
+use mathlib.Core.Bool.{Bool, true, false, cond, false≢true, _&&_}
 use Prim.Native.Nat.{ℕ, _+_, _≤_, _<_}
 use native.Mathlib.Omega.{arith}
+use lib.Dec.{eqb}
 use borrow.Author.Tests.{leb-true, ltb-true, eqb-true}
 use Rattle.basic_laws.specs.Tests.{both-hold}
 use Rattle.board.specs.declared.Region.{Region}
 use Rattle.board.specs.declared.Region.the-variants.{Absent, B2, B0, B1, External}
-use Rattle.board.specs.Regions.{within, dataRegion, present, onChipRegion, dataPresent, onChip, moveAllowed, inRom, inProgramB0, programPresent}
+use Rattle.board.specs.Regions.{within, dataRegion, present, onChipRegion, accessOutside, onChip, moveAllowed, inRom, inProgramB0, programPresent}
 use Rattle.board.specs.RegionFacts.{Lies, Moves, InProgramB0}
 
 bounds : (first last a : ℕ) → within first last a ≡ true → (first ≤ a) × (a ≤ last)
@@ -33,8 +34,7 @@ lies-below cnf a B1 l h = omega arith
 lies-below cnf a External l h = omega arith
 
 -- every address that is there is a word of the data slice
-pub present-below : (cnf a : ℕ) → dataPresent cnf a ≡ true → a < 4096
-unfolding dataPresent
+pub present-below : (cnf a : ℕ) → present (dataRegion cnf a) ≡ true → a < 4096
 present-below cnf a h = lies-below cnf a (dataRegion cnf a) (region-lies cnf a) h
 
 lies-on-chip : (cnf a : ℕ) (r : Region) → Lies cnf a r → onChipRegion r ≡ true → a < 1024
@@ -44,26 +44,46 @@ lies-on-chip cnf a B0 l h = omega arith
 lies-on-chip cnf a B1 l h = omega arith
 lies-on-chip cnf a External l h = absurd (false≢true h)
 
-chip-is-present : (r : Region) → onChipRegion r ≡ true → present r ≡ true
-chip-is-present Absent h = h
-chip-is-present B2 h = refl
-chip-is-present B0 h = refl
-chip-is-present B1 h = refl
-chip-is-present External h = refl
+-- what lies on chip is not outside
+chip-not-outside : (r : Region) → onChipRegion r ≡ true → accessOutside r ≡ 0
+chip-not-outside Absent h = refl
+chip-not-outside B2 h = refl
+chip-not-outside B0 h = refl
+chip-not-outside B1 h = refl
+chip-not-outside External h = absurd (false≢true h)
 
-pub on-chip-present : (cnf a : ℕ) → onChip cnf a ≡ true → dataPresent cnf a ≡ true
-unfolding onChip dataPresent
-on-chip-present cnf a h = chip-is-present (dataRegion cnf a) h
+pub on-chip-not-outside : (cnf a : ℕ) → onChip cnf a ≡ true → accessOutside (dataRegion cnf a) ≡ 0
+unfolding onChip
+on-chip-not-outside cnf a h = chip-not-outside (dataRegion cnf a) h
+
+-- external RAM by its addresses
+pub outside-within : (cnf a : ℕ) → accessOutside (dataRegion cnf a) ≡ cond (within 0x400 0xFFF a) 1 0
+unfolding dataRegion
+outside-within cnf a = by (within 0x400 0xFFF a) (within 0x60 0x7F a) (within 0x200 0x2FF a && eqb cnf 0) (within 0x300 0x3FF a)
+  where
+    by : (t b2 b0 b1 : Bool) → accessOutside (cond t External (cond b2 B2 (cond b0 B0 (cond b1 B1 Absent)))) ≡ cond t 1 0
+    by true b2 b0 b1 = refl
+    by false true b0 b1 = refl
+    by false false true b1 = refl
+    by false false false true = refl
+    by false false false false = refl
+
+pub one-access : (r : Region) → accessOutside r ≤ 1
+one-access Absent = omega arith
+one-access B2 = omega arith
+one-access B0 = omega arith
+one-access B1 = omega arith
+one-access External = omega arith
 
 pub on-chip-below : (cnf a : ℕ) → onChip cnf a ≡ true → a < 1024
 unfolding onChip
 on-chip-below cnf a h = lies-on-chip cnf a (dataRegion cnf a) (region-lies cnf a) h
 
 -- a data move that is made reads and writes addresses on chip
-pub moves : (cnf a : ℕ) → moveAllowed cnf a ≡ true → Moves cnf a
+pub moves : (region : Region) (cnf a : ℕ) → moveAllowed region cnf a ≡ true → Moves region cnf a
 unfolding moveAllowed
-moves cnf a h =
-    let p = both-hold (onChip cnf a) _ h in
+moves region cnf a h =
+    let p = both-hold (onChipRegion region) _ h in
     record { from = p .0; to = p .1; below = on-chip-below cnf (a + 1) (p .1) }
 
 pub rom-below : (a : ℕ) → inRom a ≡ true → a < 4096
@@ -85,7 +105,7 @@ one-space cnf a at h g =
     omega arith
 
 -- the edges: the last word of B0 moves into B1 and that of B1 nowhere; the bench's direct addresses 80h and 60h; FEFFh is absent
-pub edges : (moveAllowed 0 0x2FF ≡ true) × (moveAllowed 1 0x2FF ≡ false) × (moveAllowed 0 0x3FF ≡ false) × (moveAllowed 0 0x7F ≡ false)
-    × (dataPresent 0 0x80 ≡ false) × (dataPresent 0 0x60 ≡ true) × (programPresent 1 0xFEFF ≡ false) × (programPresent 1 0xFF00 ≡ true) × (programPresent 0 0x1000 ≡ false)
-unfolding moveAllowed onChip dataPresent dataRegion programPresent inRom inProgramB0
-edges = (refl, refl, refl, refl, refl, refl, refl, refl, refl)
+pub edges : (moveAllowed (dataRegion 0 0x2FF) 0 0x2FF ≡ true) × (moveAllowed (dataRegion 1 0x2FF) 1 0x2FF ≡ false) × (moveAllowed B1 0 0x3FF ≡ false) × (moveAllowed B2 0 0x7F ≡ false)
+    × (dataRegion 0 0x80 ≡ Absent) × (dataRegion 0 0x60 ≡ B2) × (dataRegion 0 0x3FF ≡ B1) × (dataRegion 0 0x400 ≡ External) × (dataRegion 0 0xFFF ≡ External) × (dataRegion 0 0x1000 ≡ Absent) × (programPresent 1 0xFEFF ≡ false) × (programPresent 1 0xFF00 ≡ true) × (programPresent 0 0x1000 ≡ false)
+unfolding moveAllowed onChip dataRegion programPresent inRom inProgramB0
+edges = (refl, refl, refl, refl, refl, refl, refl, refl, refl, refl, refl, refl, refl)

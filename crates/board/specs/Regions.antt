@@ -32,15 +32,21 @@ onChipRegion B0 = true
 onChipRegion B1 = true
 onChipRegion External = false
 
-unfoldable pub dataPresent : ℕ → ℕ → Bool
-dataPresent cnf address = present (dataRegion cnf address)
-
 unfoldable pub onChip : ℕ → ℕ → Bool
 onChip cnf address = onChipRegion (dataRegion cnf address)
 
--- "the word is copied to the next address only where both addresses lie in on-chip blocks now in data space"; FFFFh has no next address, and is not on chip
-unfoldable pub moveAllowed : ℕ → ℕ → Bool
-moveAllowed cnf address = onChip cnf address && onChip cnf (address + 1)
+-- "the word is copied to the next address only where both addresses lie in on-chip blocks now in data space": of a word that was found in this region. FFFFh
+-- has no next address, and is not on chip.
+unfoldable pub moveAllowed : Region → ℕ → ℕ → Bool
+moveAllowed region cnf address = onChipRegion region && onChip cnf (address + 1)
+
+-- how often one access to a region goes to external RAM
+abbrev pub accessOutside : Region → ℕ
+accessOutside Absent = 0
+accessOutside B2 = 0
+accessOutside B0 = 0
+accessOutside B1 = 0
+accessOutside External = 1
 
 -- "4,096 words of ROM at 0000h to 0FFFh"
 unfoldable pub inRom : ℕ → Bool

@@ -3,8 +3,10 @@ ghost use mathlib.Core.Path.{_≡_};
 ghost use Rattle.machine.specs.Reset.{resetMachine};
 ghost use Rattle.answers.specs.Numbers.{numberOf};
 ghost use Rattle.c_cells.specs.Checks.{lengthAnswer, cellsAfter};
-ghost use Rattle.desktop.specs.Calls.{called, stepCalled, runCalled};
+ghost use Rattle.desktop.specs.Calls.{called, stepCalled, runCalled, runWithCalled};
 ghost use Rattle.board.specs.Given.{given};
+use answers::Answer;
+use answers::number_of;
 use c_cell_calls::cells_number;
 use c_cell_calls::cells_pass;
 use c_cell_calls::put_run;
@@ -12,8 +14,11 @@ use c_cell_calls::put_step;
 use c_cell_calls::refused_run;
 use c_cell_calls::reset_cells;
 use c_cells::reading::machine_of;
+use c_results::put_results;
+use c_results::results_fit;
 use emulator::run;
 use emulator::step;
+use steps::Outside;
 
 // The cells after reset, whatever they held.
 #[no_mangle]
@@ -62,4 +67,32 @@ pub extern "C" fn crowmitten_run(
     let last = ran.answer;
     let done = ran.steps;
     put_run(cells, after_run, last, done, steps)
+}
+
+// A run, and all that it hands out at its places in `results`.
+#[no_mangle]
+pub extern "C" fn crowmitten_run_with(
+    cells: &mut [u32],
+    rom: &[u16],
+    data: &mut [u16],
+    input: &[u16],
+    output: &mut [u16],
+    budget: u16,
+    results: &mut [u32],
+) -> u32
+    ensures { λ r. ⌜ record { results = now (results .exit); after = called r (now (cells .exit)) (now («data» .exit)) (now (output .exit)) } ≡ runWithCalled (given (now (rom .entry)) (now (input .entry))) budget (now (cells .entry)) (now («data» .entry)) (now (output .entry)) (now (results .entry)) ⌝ }
+{
+    if !results_fit(results) {
+        return number_of(Answer::SlicesUnfit);
+    }
+    if !cells_pass(cells) {
+        put_results(results, 0, Outside { reads: 0, writes: 0 });
+        return cells_number(cells);
+    }
+    let ran = run(machine_of(cells), rom, data, input, output, budget);
+    let after_run = ran.m;
+    let last = ran.answer;
+    let outside = ran.outside;
+    put_results(results, ran.steps, outside);
+    put_step(cells, after_run, last)
 }

@@ -21,9 +21,11 @@ use Rattle.pages.specs.Addressing.{moved, pointed, modified, addressed, address
 use Rattle.pages.specs.AccumulatorPages.{SUBC}
 use Rattle.pages.specs.AccumulatorRule.{accumulatorRule}
 use Rattle.pages.specs.Rules.{ruleOf}
+use Rattle.board.specs.Finding.{foundAt}
 use Rattle.board.specs.Given.{Given}
 use Rattle.steps.specs.Stores.{writeOf, dataAfter}
-use Rattle.steps.specs.Pass.{readWord, wordsRead, effectOf, passedWrite}
+use Rattle.steps.specs.OperandFound.{operandFound, foundFor}
+use Rattle.steps.specs.Pass.{wordsRead, effectOf, passedWrite}
 use Rattle.steps.specs.World.{World}
 use Rattle.steps.specs.Table.{decodedAt}
 use Rattle.steps.specs.Step.{stepOf, runOf, worldAfter}
@@ -63,7 +65,7 @@ module _ (g : Given) (d : ℕ) (a : Address) (still : Still a) where
     works = every-pass-works g v (subc a) (r .at-subc) refl (done-is _ done)
 
     is-pass : SubcPass g d v
-    unfolding traitsOf accumulatorTraits wordsRead readWord
+    unfolding traitsOf accumulatorTraits wordsRead foundFor operandFound foundAt
     is-pass = record { operand = a; at-subc = r .at-subc; not-refused = done; reads = r .divisor }
 
     same-data : stepOf g v .world .«data» ≡ v .«data»
@@ -72,7 +74,7 @@ module _ (g : Given) (d : ℕ) (a : Address) (still : Still a) where
 
     -- the cells that a pass changes are ACC, OV and C, and what follows it
     effect : effectAt g v (subc a) .m ≡ SUBC (getD (v .«data») (addressOf (At a) (v .m)) 0) (v .m)
-    unfolding traitsOf accumulatorTraits effectOf ruleOf accumulatorRule wordsRead readWord
+    unfolding traitsOf accumulatorTraits effectOf ruleOf accumulatorRule wordsRead foundFor operandFound foundAt
     effect = ap (SUBC (getD (v .«data») (addressOf (At a) (v .m)) 0)) (still-machine a still (v .m))
 
   again-ready : (k : ℕ) (v : World) → Ready (suc k) v → isDone (stepOf g v .answer) ≡ true → Ready k (stepOf g v .world)

@@ -22,13 +22,15 @@ use Rattle.pages.specs.ModesPages.{RPT, RPTK}
 use Rattle.pages.specs.ModesRule.{modesRule}
 use Rattle.pages.specs.Rules.{ruleOf}
 use Rattle.pages.specs.Passes.{followed, destination}
-use Rattle.board.specs.Regions.{dataRegion, dataPresent, inRom, inProgramB0, programPresent}
+use Rattle.board.specs.Finding.{foundAt}
+use Rattle.board.specs.Regions.{dataRegion, inRom, inProgramB0, programPresent}
 use Rattle.board.specs.Slices.{memoriesFit, portFits, portSpent, slicesFit}
 use Rattle.board.specs.Windows.{windowOf, programWord}
 use Rattle.steps.specs.Rows.{firstGiven}
 use Rattle.steps.specs.Refusals.{accesses, wrongPort, takes, sends, dataAbsent, inputDry, tableAbsent, outputFull, passRows, accessRows, restRows}
 use Rattle.steps.specs.Stores.{writeOf, dataAfter, outputAfter}
-use Rattle.steps.specs.Pass.{readWord, wordsRead, effectOf, passedMachine, passedWrite, performed, planBy}
+use Rattle.steps.specs.OperandFound.{operandFound, foundFor, outsideBy}
+use Rattle.steps.specs.Pass.{wordsRead, effectOf, passedMachine, passedWrite, performed, planBy}
 use Rattle.steps.specs.Table.{checksOf, decodedAt, secondAddress, secondWord, notRepeatable, secondAbsent, tableFor, checkRows, fetchRows, encodingRows, instructionRows, repeatRows}
 use Rattle.steps.specs.Step.{pagePlan, planOf, afterStore, stepOf, runOf}
 use Rattle.laws.specs.Repeating.{wordAhead, by-rptk, by-rpt}
@@ -36,7 +38,7 @@ use Rattle.division.specs.Exposure.{direct, indirect}
 use Rattle.division_cases.specs.ExposureCases.{guideGiven, guideWorld, guideRun, limitGiven, limitWorld, limitRun, ExposureCases}
 
 pub exposure-cases : ExposureCases
-unfolding signed low holds noBorrow extended operand aluOutput subtractedConditionally wrappedSum resetMachine inRange lowFits modificationOf nextOf indirectOf addressModeOf decodeOf traitsOf accumulatorTraits modesTraits moved pointed modified addressed addressOf SUBC accumulatorRule RPT RPTK modesRule ruleOf followed destination dataRegion dataPresent inRom inProgramB0 programPresent memoriesFit portFits portSpent slicesFit windowOf programWord firstGiven accesses wrongPort takes sends dataAbsent inputDry tableAbsent outputFull passRows accessRows restRows writeOf dataAfter outputAfter readWord wordsRead effectOf passedMachine passedWrite performed planBy checksOf decodedAt secondAddress secondWord notRepeatable secondAbsent tableFor checkRows fetchRows encodingRows instructionRows repeatRows pagePlan planOf afterStore stepOf runOf wordAhead guideGiven guideWorld guideRun limitGiven limitWorld limitRun
+unfolding signed low holds noBorrow extended operand aluOutput subtractedConditionally wrappedSum resetMachine inRange lowFits modificationOf nextOf indirectOf addressModeOf decodeOf traitsOf accumulatorTraits modesTraits moved pointed modified addressed addressOf SUBC accumulatorRule RPT RPTK modesRule ruleOf followed destination dataRegion inRom inProgramB0 programPresent memoriesFit portFits portSpent slicesFit windowOf programWord firstGiven accesses wrongPort takes sends dataAbsent inputDry tableAbsent outputFull passRows accessRows restRows writeOf dataAfter outputAfter foundAt operandFound foundFor outsideBy wordsRead effectOf passedMachine passedWrite performed planBy checksOf decodedAt secondAddress secondWord notRepeatable secondAbsent tableFor checkRows fetchRows encodingRows instructionRows repeatRows pagePlan planOf afterStore stepOf runOf wordAhead guideGiven guideWorld guideRun limitGiven limitWorld limitRun
 exposure-cases = record {
   guide-code = record {
     repeat = Family.Modes (Rptk 15);

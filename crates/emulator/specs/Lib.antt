@@ -1,4 +1,5 @@
 -- definitions
 pub mod Outcomes
+pub mod Totals
 -- proofs
 pub mod RunLaws

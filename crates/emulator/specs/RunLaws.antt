@@ -2,7 +2,8 @@
 use mathlib.Core.Path.{_≡_, refl, sym, _∙_, ap}
 use mathlib.Core.Bool.{Bool, true, false}
 use mathlib.Core.List.{List, [], _∷_}
-use Prim.Native.Nat.{ℕ, zero, suc, _+_, _-_, _^_, _≤_, _<_}
+use Prim.Native.Nat.{ℕ, zero, suc, _+_, _-_, _*_, _/_, _%_, _^_, _≤_, _<_}
+use native.Mathlib.Omega.{arith}
 use lib.ListN.{length, getD}
 use Rattle.machine.specs.declared.Machine.{Machine}
 use Rattle.machine.specs.Range.{inRange}
@@ -24,6 +25,11 @@ use Rattle.kinds.specs.Table.{kindTable}
 use Rattle.fetching.specs.ByTable.{fetchPlanBy}
 use Rattle.fetching.specs.TableLaws.{fetch-by-kinds}
 use Rattle.steps.specs.StepLaws.{step-fits, Running, running-begins, running-goes, running-ends}
+use Rattle.steps.specs.declared.Outside.{Outside}
+use Rattle.steps.specs.OperandFound.{noneOutside}
+use Rattle.steps.specs.Tally.{planIn, plansOf, tallied, bothOutside, addOutside, outsideOf}
+use Rattle.steps.specs.TallyLaws.{few-outside, Tallying, tallying-begins, tallying-goes, tallying-stops, tallying-ends, plans-refused, plans-none}
+use Rattle.emulator.specs.Totals.{inOne, apartFrom}
 use Rattle.steps.specs.RowLaws.{Refusals, all-refuse, none-from, row-not, plan-done, plan-by-first}
 use Rattle.ranges.specs.Ranges.{WordsFit, WorldInRange}
 use Rattle.ranges.specs.Operands.{program-word-lt}
@@ -74,6 +80,14 @@ module _ (g : Given) where
   refused-run zero w e = refl
   refused-run (suc n) w e = rw (refused-step w e, e) refl
 
+  no-plans : (budget : ℕ) (w : World) → isDone (checksIn w) ≡ false → plansOf g budget w ≡ []
+  no-plans zero w e = plans-none g w
+  no-plans (suc n) w e = plans-refused g n w (ap (λ (o : Outcome). isDone (o .answer)) (refused-step w e) ∙ e)
+
+  pub refused-counts : (budget : ℕ) (w : World) → isDone (checksIn w) ≡ false → outsideOf g budget w ≡ noneOutside
+  unfolding outsideOf tallied
+  refused-counts budget w e = rw (no-plans budget w e) refl
+
   pub in-range-checks : (w : World) → WorldInRange g w → checksIn w ≡ Done
   in-range-checks w k = checks-done g (w .«data») (length (w .output)) (w .m) (k .in-range) (k .slices-fit)
 
@@ -95,6 +109,58 @@ module _ (g : Given) where
 
     pub going-ends : budget ≤ k → record { world = w; steps = k; answer = Done } ≡ runOf g budget w₀
     going-ends l = rw (← going-checks) (running-ends g budget w₀ w k (going .running) l)
+
+-- ---- the totals of a run
+
+-- what the loop of a run keeps beside its steps: the counts of k steps in one number, each at most k
+pub record Counting (g : Given) (budget : ℕ) (w₀ w : World) (k totals : ℕ) : Type 0 where
+  pub so-far : Outside
+  pub in-one : totals ≡ inOne so-far
+  pub reads-within : so-far .reads ≤ k
+  pub writes-within : so-far .writes ≤ k
+  pub tallying : Tallying addOutside g budget w₀ noneOutside w k so-far
+
+pub apart-again : (o : Outside) → o .reads < 65536 → apartFrom (inOne o) ≡ o
+unfolding apartFrom inOne
+apart-again o l =
+    let reads : (o .reads + 65536 * o .writes) % 65536 ≡ o .reads = omega arith in
+    let writes : (o .reads + 65536 * o .writes) / 65536 ≡ o .writes = omega arith in
+    rw (reads, writes)
+
+module _ (g : Given) (budget : ℕ) (w₀ : World) where
+  pub counting-begins : Counting g budget w₀ w₀ 0 0
+  unfolding inOne
+  counting-begins = record { so-far = noneOutside; in-one = refl; reads-within = omega arith; writes-within = omega arith; tallying = tallying-begins addOutside g budget w₀ noneOutside }
+
+  module _ (w : World) (k totals : ℕ) (c : Counting g budget w₀ w k totals) where
+    pub counting-goes : (out : Outcome) → out ≡ stepOf g w → k < budget → isDone (out .answer) ≡ true → (x : Outside) → x ≡ planIn g w .outside
+        → Counting g budget w₀ (out .world) (k + 1) (totals + inOne x)
+    unfolding inOne addOutside
+    counting-goes out e l h x f =
+        let few = few-outside g w in
+        rw f
+        (record {
+          so-far = bothOutside (c .so-far) (planIn g w .outside);
+          in-one = omega (arith, c .in-one);
+          reads-within = omega (arith, few .one-read, c .reads-within);
+          writes-within = omega (arith, few .one-write, c .writes-within);
+          tallying = tallying-goes addOutside g budget w₀ noneOutside w k (c .so-far) (c .tallying) out e l h;
+        })
+
+    pub counted-fits : k < budget → budget < 65536 → (x : Outside) → x ≡ planIn g w .outside → totals + inOne x < 2 ^ 32
+    unfolding inOne
+    counted-fits l b x f = let few = few-outside g w in rw f (omega (arith, c .in-one, c .reads-within, c .writes-within, few .one-read, few .one-write))
+
+    totals-are : k < 65536 → c .so-far ≡ outsideOf g budget w₀ → apartFrom totals ≡ outsideOf g budget w₀
+    totals-are l e = ap apartFrom (c .in-one) ∙ (apart-again (c .so-far) (omega (arith, c .reads-within)) ∙ e)
+
+    pub counting-stops : budget < 65536 → (out : Outcome) → out ≡ stepOf g w → k < budget → isDone (out .answer) ≡ false → apartFrom totals ≡ outsideOf g budget w₀
+    unfolding outsideOf
+    counting-stops b out e l h = totals-are (omega arith) (tallying-stops addOutside g budget w₀ noneOutside w k (c .so-far) (c .tallying) out e l h)
+
+    pub counting-ends : k < 65536 → budget ≤ k → apartFrom totals ≡ outsideOf g budget w₀
+    unfolding outsideOf
+    counting-ends b l = totals-are b (tallying-ends addOutside g budget w₀ noneOutside w k (c .so-far) (c .tallying) l)
 
 -- ---- what the types of lent words tell
 

@@ -3,6 +3,7 @@ use answers::Answer;
 use answers::is_done;
 use fetching::plan_fetched;
 use machine::Machine;
+use steps::Outside;
 use steps::Write;
 ghost use mathlib.Core.Path.{_≡_};
 ghost use Prim.Native.Nat.{_<_};
@@ -13,18 +14,39 @@ ghost use Rattle.steps.specs.Stores.{dataAfter, outputAfter};
 ghost use Rattle.steps.specs.StoreLaws.{WriteFits};
 ghost use Rattle.steps.specs.Table.{checksOf};
 ghost use Rattle.steps.specs.Step.{stepOf, runOf};
+ghost use Rattle.steps.specs.Tally.{planIn, outsideOf};
 ghost use Rattle.emulator.specs.Outcomes.{stepped, ran};
+ghost use Rattle.emulator.specs.Totals.{inOne, apartFrom};
 ghost use Rattle.board.specs.Given.{given};
 
 pub struct Stepped {
     pub m: Machine,
     pub answer: Answer,
+    pub outside: Outside,
 }
 
 pub struct Ran {
     pub m: Machine,
     pub steps: u16,
     pub answer: Answer,
+    pub outside: Outside,
+}
+
+// Both counts in one number, the writes in its upper half. A run keeps its totals so: one sum beside its steps costs some 10 instructions of a step less
+// than two (docs/PERFORMANCE.md).
+fn in_one(outside: Outside) -> u32
+    ensures { λ r. ⌜ r ≡ inOne outside ⌝ }
+{
+    (outside.reads as u32) + 65536 * (outside.writes as u32)
+}
+
+fn apart(totals: u32) -> Outside
+    ensures { λ r. ⌜ r ≡ apartFrom totals ⌝ }
+{
+    Outside {
+        reads: (totals % 65536) as u16,
+        writes: (totals / 65536) as u16,
+    }
 }
 
 // A data store, made into its data page's part.
@@ -59,14 +81,20 @@ fn checked_step(
     output: &mut [u16],
 ) -> Stepped
     requires { ⌜ (now kinds ≡ kindTable) × (checksOf (given (now rom) (now input)) (now «data») (length (now output)) m ≡ Done) ⌝ }
-    ensures { λ r. ⌜ stepped r (now («data» .exit)) (now (output .exit)) ≡ stepOf (given (now (rom .entry)) (now (input .entry))) (record { m = m; «data» = now («data» .entry); output = now (output .entry) }) ⌝ }
+    ensures outcome { λ r. ⌜ stepped r (now («data» .exit)) (now (output .exit)) ≡ stepOf (given (now (rom .entry)) (now (input .entry))) (record { m = m; «data» = now («data» .entry); output = now (output .entry) }) ⌝ }
+    ensures counted { λ r. ⌜ r .outside ≡ planIn (given (now (rom .entry)) (now (input .entry))) (record { m = m; «data» = now («data» .entry); output = now (output .entry) }) .outside ⌝ }
 {
     let p = plan_fetched(kinds, rom, &data[..], input, output.len(), m);
     let n = p.m;
     let answer = p.answer;
     let write = p.write;
+    let outside = p.outside;
     commit(write, data, output);
-    Stepped { m: n, answer }
+    Stepped {
+        m: n,
+        answer,
+        outside,
+    }
 }
 
 // Checks 1 and 2.
@@ -92,7 +120,8 @@ pub fn run(
     output: &mut [u16],
     budget: u16,
 ) -> Ran
-    ensures { λ r. ⌜ ran r (now («data» .exit)) (now (output .exit)) ≡ runOf (given (now (rom .entry)) (now (input .entry))) budget (record { m = m; «data» = now («data» .entry); output = now (output .entry) }) ⌝ }
+    ensures outcome { λ r. ⌜ ran r (now («data» .exit)) (now (output .exit)) ≡ runOf (given (now (rom .entry)) (now (input .entry))) budget (record { m = m; «data» = now («data» .entry); output = now (output .entry) }) ⌝ }
+    ensures counted { λ r. ⌜ r .outside ≡ outsideOf (given (now (rom .entry)) (now (input .entry))) budget (record { m = m; «data» = now («data» .entry); output = now (output .entry) }) ⌝ }
 {
     let checked = check(m, rom, &data[..], input, output.len());
     if !is_done(checked) {
@@ -100,17 +129,23 @@ pub fn run(
             m,
             steps: 0,
             answer: checked,
+            outside: Outside {
+                reads: 0,
+                writes: 0,
+            },
         };
     }
     let kinds = kinds::kinds();
     let mut n = m;
     let mut steps: u16 = 0;
+    let mut totals: u32 = 0;
     loop {
         if budget <= steps {
             break Ran {
                 m: n,
                 steps,
                 answer: Answer::Done,
+                outside: apart(totals),
             };
         }
         let s = checked_step(&kinds, n, rom, data, input, output);
@@ -121,19 +156,28 @@ pub fn run(
                 m: k,
                 steps,
                 answer,
+                outside: apart(totals),
             };
         }
+        let outside = s.outside;
         n = s.m;
         steps += 1;
+        totals += in_one(outside);
     }
 }
 
 // A run of one step: checks 1 and 2, and the step.
 pub fn step(m: Machine, rom: &[u16], data: &mut [u16], input: &[u16], output: &mut [u16]) -> Stepped
-    ensures { λ r. ⌜ stepped r (now («data» .exit)) (now (output .exit)) ≡ stepOf (given (now (rom .entry)) (now (input .entry))) (record { m = m; «data» = now («data» .entry); output = now (output .entry) }) ⌝ }
+    ensures outcome { λ r. ⌜ stepped r (now («data» .exit)) (now (output .exit)) ≡ stepOf (given (now (rom .entry)) (now (input .entry))) (record { m = m; «data» = now («data» .entry); output = now (output .entry) }) ⌝ }
+    ensures counted { λ r. ⌜ r .outside ≡ planIn (given (now (rom .entry)) (now (input .entry))) (record { m = m; «data» = now («data» .entry); output = now (output .entry) }) .outside ⌝ }
 {
     let ran = run(m, rom, data, input, output, 1);
     let after = ran.m;
     let answer = ran.answer;
-    Stepped { m: after, answer }
+    let outside = ran.outside;
+    Stepped {
+        m: after,
+        answer,
+        outside,
+    }
 }

@@ -32,7 +32,8 @@ use Rattle.steps.specs.World.{World}
 use Rattle.steps.specs.Table.{decodedAt, secondWord, tableFor, checkRows, fetchRows, encodingRows, instructionRows, repeatRows}
 use Rattle.steps.specs.Step.{afterStore, stepOf, oneMore, runOf}
 use Rattle.steps.specs.RowLaws.{row-not}
-use Rattle.steps.specs.TableLaws.{step-world}
+use Rattle.steps.specs.Tally.{planIn}
+use Rattle.steps.specs.TableLaws.{step-plan}
 use Rattle.laws.specs.Laws.{continued, withFurther, ContinuedWith, RunContinued}
 use Rattle.laws.specs.Steps.{_and_, row-given}
 use Rattle.laws.specs.Runs.{run-none, run-refused, run-done, by-first, none-before, one-before}
@@ -102,9 +103,9 @@ module _ (g : Given) (further : List ℕ) (l : length (g .input ++ further) ≤ 
   performed-further i second d m dry = rw (effect-further i second d m dry)
 
   module _ (w : World) (e : stepOf g w .answer ≡ Done) where
-    record SameStep : Type 0 where
-      answer-same : stepOf (withFurther g further) w .answer ≡ Done
-      world-same : stepOf (withFurther g further) w .world ≡ stepOf g w .world
+    pub record SameStep : Type 0 where
+      pub answer-same : stepOf (withFurther g further) w .answer ≡ Done
+      pub plan-same : planIn (withFurther g further) w ≡ planIn g w
 
     built-same : (i : Instruction) → decodedAt g (w .«data») (w .m) ≡ Built i → NoneHolds (tableFor (Built i) g (w .«data») (length (w .output)) (w .m)) → SameStep
     unfolding tableFor checkRows fetchRows encodingRows instructionRows repeatRows passRows accessRows restRows decodedAt secondWord
@@ -114,9 +115,9 @@ module _ (g : Given) (further : List ℕ) (l : length (g .input ++ further) ≤ 
         row-given (withFurther g further) w .done-by (rw d (none-further i (w .«data») (length (w .output)) (w .m) n)) in
         record {
           answer-same = done;
-          world-same =
-              step-world (withFurther g further) w i d done
-              ∙ (ap (λ (p : Plan). afterStore p w) (performed-further i (secondWord i g (w .«data») (w .m)) (w .«data») (w .m) dry) ∙ sym (step-world g w i d e));
+          plan-same =
+              step-plan (withFurther g further) w i d done
+              ∙ (performed-further i (secondWord i g (w .«data») (w .m)) (w .«data») (w .m) dry ∙ sym (step-plan g w i d e));
         }
 
     decoded-same : (x : Decoded) → decodedAt g (w .«data») (w .m) ≡ x → NoneHolds (tableFor x g (w .«data») (length (w .output)) (w .m)) → SameStep
@@ -125,8 +126,12 @@ module _ (g : Given) (further : List ℕ) (l : length (g .input ++ further) ≤ 
     decoded-same Unbuilt d n = absurd (false≢true (sym (row-not (tableFor Unbuilt g (w .«data») (length (w .output)) (w .m)) "4" n)))
     decoded-same Nothing d n = absurd (false≢true (sym (row-not (tableFor Nothing g (w .«data») (length (w .output)) (w .m)) "3" n)))
 
-    step-further : SameStep
+    pub step-further : SameStep
     step-further = decoded-same (decodedAt g (w .«data») (w .m)) refl (row-given g w .done-only e)
+
+  pub world-same : (w : World) → stepOf g w .answer ≡ Done → stepOf (withFurther g further) w .world ≡ stepOf g w .world
+  unfolding stepOf
+  world-same w e = ap (λ (p : Plan). afterStore p w) (step-further w e .plan-same)
 
   -- ---- the run
 
@@ -139,7 +144,7 @@ module _ (g : Given) (further : List ℕ) (l : length (g .input ++ further) ≤ 
       let k = runOf g n after .steps in
       let same : n - k ≡ suc n - suc k = omega arith in
       run-done (withFurther g further) n w (ap isDone (s .answer-same))
-      ∙ (ap (λ (v : World). oneMore (runOf (withFurther g further) n v)) (s .world-same)
+      ∙ (ap (λ (v : World). oneMore (runOf (withFurther g further) n v)) (world-same w (done-is _ d))
       ∙ (ap oneMore (run-further n after)
       ∙ rw (run-done g n w d)
       (one-before k (runOf (withFurther g further) (n - k) (runOf g n after .world))

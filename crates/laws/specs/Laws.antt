@@ -16,6 +16,8 @@ use Rattle.instructions.specs.declared.Instruction.{Instruction}
 use Rattle.instructions.specs.declared.Instruction.the-variants.{Transfers}
 use Rattle.instructions.specs.declared.Transfers.the-variants.{In}
 use Rattle.instructions.specs.declared.Decoded.the-variants.{Built, Nothing}
+use Rattle.pages.specs.declared.Access.{Access}
+use Rattle.pages.specs.declared.Access.the-variants as Access
 use Rattle.pages.specs.Traits.{traitsOf}
 use Rattle.pages.specs.Addressing.{addressOf}
 use Rattle.pages.specs.declared.Words.{Words}
@@ -23,18 +25,23 @@ use Rattle.pages.specs.declared.Effect.{Effect}
 use Rattle.answers.specs.declared.Answer.{Answer}
 use Rattle.answers.specs.declared.Answer.the-variants.{Done, InputDry}
 use Rattle.answers.specs.Numbers.{numberOf, isDone}
-use Rattle.board.specs.Regions.{inRom, inProgramB0, programPresent}
+use Rattle.board.specs.Regions.{within, inRom, inProgramB0, programPresent}
 use Rattle.board.specs.Slices.{slicesFit}
 use Rattle.board.specs.Windows.{windowStart}
 use Rattle.board.specs.Given.{Given}
+use Rattle.steps.specs.declared.Outside.{Outside}
+use Rattle.steps.specs.declared.Plan.{Plan}
 use Rattle.steps.specs.declared.Write.{Write}
+use Rattle.steps.specs.declared.Write.the-variants as Write
 use Rattle.steps.specs.Rows.{Row, row, firstGiven, NoneHolds}
+use Rattle.steps.specs.OperandFound.{foundFor, noneOutside}
 use Rattle.steps.specs.Refusals.{wrongPort, dataAbsent, inputDry}
 use Rattle.steps.specs.Stores.{dataAfter, outputAfter}
 use Rattle.steps.specs.Pass.{wordsRead, effectOf, passedWrite}
 use Rattle.steps.specs.World.{World, RunOutcome}
 use Rattle.steps.specs.Table.{decodedAt, secondWord, notRepeatable, secondAbsent, tableFor, checksOf}
 use Rattle.steps.specs.Step.{stepOf, runOf, rowsOf, worldAfter}
+use Rattle.steps.specs.Tally.{planIn, plansOf, tallied, bothOutside, outsideOf}
 
 -- ---- a refused step
 
@@ -95,7 +102,7 @@ RepeatBeforeSecondWord = (g : Given) (w : World) (i : Instruction) → Meets g w
 abbrev pub PortBeforeData : Type 0
 PortBeforeData = (g : Given) (w : World) (i : Instruction) → Meets g w i
     → notRepeatable (w .m) i ≡ false → secondAbsent (w .m) i ≡ false
-    → wrongPort (traitsOf i .port) ≡ true → dataAbsent (traitsOf i) (addressOf (traitsOf i .operand) (w .m)) (w .m) ≡ true
+    → wrongPort (traitsOf i .port) ≡ true → dataAbsent (traitsOf i) (foundFor (traitsOf i) (w .«data») (w .m) .region) ≡ true
     → numberOf (stepOf g w .answer) ≡ 9
 
 -- 9, 11: an IN from a port other than 0, with the input dry
@@ -108,7 +115,7 @@ PortBeforeDry = (g : Given) (w : World) (i : Instruction) → Meets g w i
 abbrev pub DataBeforeDry : Type 0
 DataBeforeDry = (g : Given) (w : World) (i : Instruction) → Meets g w i
     → notRepeatable (w .m) i ≡ false → secondAbsent (w .m) i ≡ false
-    → wrongPort (traitsOf i .port) ≡ false → dataAbsent (traitsOf i) (addressOf (traitsOf i .operand) (w .m)) (w .m) ≡ true
+    → wrongPort (traitsOf i .port) ≡ false → dataAbsent (traitsOf i) (foundFor (traitsOf i) (w .«data») (w .m) .region) ≡ true
     → inputDry (traitsOf i) (length (g .input)) (w .m) ≡ true
     → numberOf (stepOf g w .answer) ≡ 6
 
@@ -159,6 +166,56 @@ pub record RunsAdd (g : Given) (a b : ℕ) (w : World) : Type 0 where
       → runOf g (a + b) w ≡ continued a (runOf g b (runOf g a w .world))
   pub first-refused : isDone (runOf g a w .answer) ≡ false → runOf g (a + b) w ≡ runOf g a w
 
+-- ---- reads and writes of external RAM (document 02, request 7)
+
+-- "external RAM (0400h to 0FFFh)": how many of these data addresses lie in it
+unfoldable pub externalAmong : List ℕ → ℕ
+externalAmong [] = 0
+externalAmong (address ∷ addresses) = cond (within 0x400 0xFFF address) 1 0 + externalAmong addresses
+
+-- the data addresses that a page with this access reads: its operand's, once (ruling X1)
+unfoldable pub addressesRead : Access → ℕ → List ℕ
+addressesRead Access.None address = []
+addressesRead Access.Reads address = address ∷ []
+addressesRead Access.Writes address = []
+
+-- the data addresses at which a step's store puts a word
+unfoldable pub addressesWritten : Write → List ℕ
+addressesWritten Write.Nothing = []
+addressesWritten (Write.Data address word) = address ∷ []
+addressesWritten (Write.Sent at word) = []
+
+-- "both equal the counts that the instruction's rule gives, and a refused step adds none"
+pub record CountsOfAStep (g : Given) (w : World) : Type 0 where
+  pub reads-of-page : (i : Instruction) → decodedAt g (w .«data») (w .m) ≡ Built i → stepOf g w .answer ≡ Done
+      → planIn g w .outside .reads ≡ externalAmong (addressesRead (traitsOf i .access) (addressOf (traitsOf i .operand) (w .m)))
+  pub writes-stored : planIn g w .outside .writes ≡ externalAmong (addressesWritten (planIn g w .write))
+  pub one-read : planIn g w .outside .reads ≤ 1
+  pub one-write : planIn g w .outside .writes ≤ 1
+  pub refused-none : isDone (stepOf g w .answer) ≡ false → planIn g w .outside ≡ noneOutside
+
+-- the plans of the first k steps
+unfoldable pub plansOfSteps : Given → ℕ → World → List Plan
+plansOfSteps g zero w = []
+plansOfSteps g (suc k) w = planIn g w ∷ plansOfSteps g k (stepOf g w .world)
+
+-- a run's totals are over the steps that it reports as done, and are no more than these (ruling X5)
+pub record CountsOfARun (g : Given) (budget : ℕ) (w : World) : Type 0 where
+  pub over-steps-done : plansOf g budget w ≡ plansOfSteps g (runOf g budget w .steps) w
+  pub reads-within : outsideOf g budget w .reads ≤ runOf g budget w .steps
+  pub writes-within : outsideOf g budget w .writes ≤ runOf g budget w .steps
+
+-- whatever is kept beside a run: of a + b it is what a keeps and then b, where the first is not refused; else what a keeps
+pub record TalliesAdd {S : Type 0} (keep : Plan → S → S) (g : Given) (a b : ℕ) (w : World) (s : S) : Type 0 where
+  pub first-done : isDone (runOf g a w .answer) ≡ true
+      → tallied keep (plansOf g (a + b) w) s ≡ tallied keep (plansOf g b (runOf g a w .world)) (tallied keep (plansOf g a w) s)
+  pub first-refused : isDone (runOf g a w .answer) ≡ false → tallied keep (plansOf g (a + b) w) s ≡ tallied keep (plansOf g a w) s
+
+-- the totals of a split run add
+pub record CountsAdd (g : Given) (a b : ℕ) (w : World) : Type 0 where
+  pub first-done : isDone (runOf g a w .answer) ≡ true → outsideOf g (a + b) w ≡ bothOutside (outsideOf g a w) (outsideOf g b (runOf g a w .world))
+  pub first-refused : isDone (runOf g a w .answer) ≡ false → outsideOf g (a + b) w ≡ outsideOf g a w
+
 -- ---- a run that a dry port stopped (document 02, request 2)
 
 -- what a call is given, with further words behind those of the input
@@ -174,6 +231,12 @@ ContinuedWith further g budget w = runOf (withFurther g further) budget w
 -- the longer run (ruling D2).
 abbrev pub RunContinued : Type 0
 RunContinued = (g : Given) (further : List ℕ) (budget : ℕ) (w : World) → length (g .input ++ further) ≤ 1024 → ContinuedWith further g budget w
+
+-- and so for whatever is kept beside it
+abbrev pub TallyContinued : (S : Type 0) → (Plan → S → S) → Type 0
+TallyContinued S keep = (g : Given) (further : List ℕ) (budget : ℕ) (w : World) (s : S) → length (g .input ++ further) ≤ 1024
+    → tallied keep (plansOf (withFurther g further) budget w) s
+    ≡ tallied keep (plansOf (withFurther g further) (budget - runOf g budget w .steps) (runOf g budget w .world)) (tallied keep (plansOf g budget w) s)
 
 -- a world in which the next step is an IN from port 0, and the cursor is at the end of the input
 pub record AtDryPort (g : Given) (w : World) : Type 0 where

@@ -10,4 +10,6 @@ pub mod RepeatingLaws
 pub mod Inputs
 pub mod Continued
 pub mod StoppedDry
+pub mod Counts
+pub mod Histories
 pub mod Windows

@@ -11,9 +11,11 @@ use Rattle.pages.specs.Passes.{followed, destination}
 use Rattle.pages.specs.ModesPages.{RPT, RPTK}
 use Rattle.pages.specs.ModesRule.{modesRule}
 use Rattle.pages.specs.Rules.{ruleOf}
+use Rattle.board.specs.Finding.{foundAt}
 use Rattle.board.specs.Given.{Given}
 use Rattle.steps.specs.Stores.{writeOf, dataAfter, outputAfter}
-use Rattle.steps.specs.Pass.{readWord, wordsRead, effectOf, passedMachine, passedWrite, performed}
+use Rattle.steps.specs.OperandFound.{operandFound, foundFor}
+use Rattle.steps.specs.Pass.{wordsRead, effectOf, passedMachine, passedWrite, performed}
 use Rattle.steps.specs.World.{World}
 use Rattle.steps.specs.Table.{decodedAt, secondWord}
 use Rattle.steps.specs.Step.{afterStore, stepOf}
@@ -24,7 +26,7 @@ use Rattle.laws.specs.OperandLaws.{operand-alike}
 module _ (g : Given) (w : World) where
   performs : (r : Instruction) (k : ℕ) → Repeats w r k
       → afterStore (performed (traitsOf r) r (secondWord r g (w .«data») (w .m)) g (w .«data») (w .m)) w ≡ repeatBegun w r k
-  unfolding afterStore performed passedMachine passedWrite effectOf traitsOf modesTraits ruleOf modesRule RPT RPTK followed destination writeOf dataAfter outputAfter wordsRead readWord
+  unfolding afterStore performed passedMachine passedWrite effectOf traitsOf modesTraits ruleOf modesRule RPT RPTK followed destination writeOf dataAfter outputAfter wordsRead foundFor operandFound foundAt
   performs _ _ (by-rptk k) = rw (operand-alike (traitsOf (Family.Modes (Rptk k)) .operand) (w .m) .pc)
   performs _ _ (by-rpt a) = rw (operand-alike (traitsOf (Family.Modes (Rpt a)) .operand) (w .m) .pc)
 

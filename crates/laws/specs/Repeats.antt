@@ -54,6 +54,7 @@ use Rattle.pages.specs.declared.Words.{Words}
 use Rattle.pages.specs.Rules.{ruleOf}
 use Rattle.board.specs.Slices.{slicesFit}
 use Rattle.board.specs.Given.{Given}
+use Rattle.steps.specs.OperandFound.{foundFor}
 use Rattle.steps.specs.Refusals.{dataAbsent, inputDry, tableAbsent, outputFull, passRows, accessRows, restRows}
 use Rattle.steps.specs.Stores.{dataAfter, outputAfter}
 use Rattle.steps.specs.Pass.{wordsRead, effectOf, passedMachine, passedWrite, performed}
@@ -202,9 +203,13 @@ address-counted Operand.Nothing m n pc = refl
 address-counted (Operand.At (Mode.Direct offset)) m n pc = refl
 address-counted (Operand.At (Mode.Indirect operand)) m n pc = refl
 
+found-counted : (t : Traits) («data» : List ℕ) (m : Machine) (n pc : ℕ) → foundFor t «data» (countedAt m n pc) ≡ foundFor t «data» m
+unfolding foundFor
+found-counted t «data» m n pc = rw (address-counted (t .operand) m n pc)
+
 words-counted : (t : Traits) (second : ℕ) (g : Given) («data» : List ℕ) (m : Machine) (n pc : ℕ) → wordsRead t second g «data» (countedAt m n pc) ≡ wordsRead t second g «data» m
 unfolding wordsRead tableAddress
-words-counted t second g «data» m n pc = rw (address-counted (t .operand) m n pc)
+words-counted t second g «data» m n pc = rw (found-counted t «data» m n pc)
 
 -- ---- the pass
 
@@ -223,7 +228,7 @@ module _ (i : Instruction) (h : traitsOf i .repeatable ≡ true) (second : ℕ) 
 
   written-with : (n : ℕ) → passedWrite (traitsOf i) i second g «data» (countedAt m n (m .pc)) ≡ passedWrite (traitsOf i) i second g «data» m
   unfolding passedWrite
-  written-with n = rw (effect-counted n (m .pc), address-counted (traitsOf i .operand) m n (m .pc))
+  written-with n = rw (effect-counted n (m .pc), found-counted (traitsOf i) «data» m n (m .pc), address-counted (traitsOf i .operand) m n (m .pc))
 
 follows-on : (m : Machine) (n pc words : ℕ) → followed (countedAt m (suc n) pc) Jump.Past words true ≡ withMid (withRptc (withPc m pc) n) 1
 unfolding followed
@@ -260,10 +265,10 @@ module _ (g : Given) (w : World) (i : Instruction) (d : decodedAt g (w .«data»
 
   -- nothing that a pass asks looks at RPTC
   pass-recounted : (second : ℕ)
-      → passRows (traitsOf i) (addressOf (traitsOf i .operand) (withRptc (w .m) n)) second (length (g .input)) (length (w .output)) (withRptc (w .m) n)
-      ≡ passRows (traitsOf i) (addressOf (traitsOf i .operand) (w .m)) second (length (g .input)) (length (w .output)) (w .m)
+      → passRows (traitsOf i) (foundFor (traitsOf i) (w .«data») (withRptc (w .m) n) .region) second (length (g .input)) (length (w .output)) (withRptc (w .m) n)
+      ≡ passRows (traitsOf i) (foundFor (traitsOf i) (w .«data») (w .m) .region) second (length (g .input)) (length (w .output)) (w .m)
   unfolding passRows accessRows restRows dataAbsent tableAbsent tableAddress inputDry outputFull
-  pass-recounted second = rw (address-counted (traitsOf i .operand) (w .m) n (w .m .pc))
+  pass-recounted second = rw (found-counted (traitsOf i) (w .«data») (w .m) n (w .m .pc))
 
   none-recounted : NoneHolds (tableFor (Built i) g (w .«data») (length (w .output)) (w .m)) → NoneHolds (tableFor (Built i) g (w .«data») (length (w .output)) (withRptc (w .m) n))
   unfolding tableFor checkRows fetchRows encodingRows instructionRows repeatRows slicesFit notRepeatable secondAbsent secondAddress secondWord

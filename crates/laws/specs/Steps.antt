@@ -19,6 +19,7 @@ use Rattle.steps.specs.World.{World}
 use Rattle.steps.specs.Table.{decodedAt, secondWord, tableFor, checksOf, checkRows, fetchRows, encodingRows, instructionRows, repeatRows}
 use Rattle.steps.specs.Step.{pagePlan, planOf, afterStore, stepOf, rowsOf}
 use Rattle.steps.specs.RowLaws.{every, every-first, none-done, none-from, none-append, plan-by-first}
+use Rattle.steps.specs.OperandFound.{foundFor}
 use Rattle.steps.specs.Refusals.{passRows, accessRows, restRows}
 use Rattle.steps.specs.TableLaws.{step-answer, rows-refuse}
 use Rattle.laws.specs.Laws.{RefusedUnchanged, AnswersOfAStep, GivenBy, RowGiven, RepeatBeforeSecondWord, PortBeforeData, PortBeforeDry, DataBeforeDry, PresenceBeforeEncoding, isAmong, stepNumbers}
@@ -74,7 +75,7 @@ answers-of-checks g «data» outputLength m = first-numbered (checkRows g «data
 
 -- the rows of the pass, of a table in which none holds
 pub pass-none : (i : Instruction) (g : Given) («data» : List ℕ) (outputLength : ℕ) (m : Machine) → NoneHolds (tableFor (Built i) g «data» outputLength m)
-    → NoneHolds (passRows (traitsOf i) (addressOf (traitsOf i .operand) m) (secondWord i g «data» m) (length (g .input)) outputLength m)
+    → NoneHolds (passRows (traitsOf i) (foundFor (traitsOf i) «data» m .region) (secondWord i g «data» m) (length (g .input)) outputLength m)
 unfolding tableFor instructionRows
 pass-none i g «data» outputLength m n =
     let fetched = none-append (checkRows g «data» outputLength m) _ n .1 in

@@ -22,6 +22,7 @@ use Rattle.board.specs.Given.{Given}
 use Rattle.board.specs.Slices.{portSpent}
 use Rattle.board.specs.SliceLaws.{slices-fit, longer-fits, port-ended}
 use Rattle.steps.specs.Rows.{Row, row, firstGiven, NoneHolds}
+use Rattle.steps.specs.OperandFound.{foundFor}
 use Rattle.steps.specs.Refusals.{takes, sends, wrongPort, inputDry, tableAbsent, outputFull, passRows, accessRows, restRows}
 use Rattle.steps.specs.World.{World}
 use Rattle.steps.specs.Table.{decodedAt, secondWord, tableFor, checksOf, checkRows, fetchRows, encodingRows, instructionRows, repeatRows}
@@ -62,7 +63,7 @@ row-11-holds false rest h e = absurd (never-dry rest h e)
 -- the rows before 11's
 rowsBefore : Given → List ℕ → ℕ → Machine → Instruction → List Row
 rowsBefore g d outputLength m i =
-    checkRows g d outputLength m ++ fetchRows m ++ encodingRows (Built i) ++ repeatRows i m ++ accessRows (traitsOf i) (addressOf (traitsOf i .operand) m) m
+    checkRows g d outputLength m ++ fetchRows m ++ encodingRows (Built i) ++ repeatRows i m ++ accessRows (traitsOf i) (foundFor (traitsOf i) d m .region)
 
 record DryStep (g : Given) (w : World) : Type 0 where
   at-in : AtDryPort g w

@@ -10,6 +10,8 @@ use Rattle.c_cell_calls.proofs.refused_run.Reads as RefusedRun
 use Rattle.c_cell_calls.proofs.reset_cells.Reads as ResetCells
 use Rattle.c_cell_calls.proofs.put_step.Reads as PutStep
 use Rattle.c_cell_calls.proofs.put_run.Reads as PutRun
+use Rattle.c_results.proofs.results_fit.Reads as ResultsFit
+use Rattle.c_results.proofs.put_results.Reads as PutResults
 use Rattle.c_files.proofs.read_counts.Reads as ReadCounts
 use Rattle.c_files.proofs.set_up_slices.Reads as SetUpSlices
 use Rattle.c_file_writing.proofs.write_counted.Reads as WriteCounted
@@ -21,19 +23,24 @@ use Rattle.desktop.proofs.files.crowmitten_write.Reads as CrowmittenWrite
 use Rattle.desktop.proofs.running.crowmitten_reset.Reads as CrowmittenReset
 use Rattle.desktop.proofs.running.crowmitten_step.Reads as CrowmittenStep
 use Rattle.desktop.proofs.running.crowmitten_run.Reads as CrowmittenRun
+use Rattle.desktop.proofs.running.crowmitten_run_with.Reads as CrowmittenRunWith
 use Rattle.desktop.proofs.sent.crowmitten_words_sent.Reads as CrowmittenWordsSent
 use Rattle.desktop.proofs.window.crowmitten_window.Reads as CrowmittenWindow
 use Rattle.runfile_setting_up.specs.SetUp.{lent}
 use Rattle.c_words_sent.specs.Sent.{counted}
 use Rattle.c_window.specs.Shown.{placed}
-use Rattle.desktop.specs.Calls.{Called, RunCalled, called}
+use Rattle.desktop.specs.Calls.{Called, RunCalled, RunWithCalled, called}
+use mathlib.Core.List.{List}
 use Prim.Native.Nat.{ℕ}
 use denote.Ref.{now}
 use Rattle.one_result.specs.One.{OneOutcome, OneResult, pair, same, same-pair}
 
--- what a call of `run` shows
+-- what a call of `run` and of `run_with` shows
 abbrev runShown : ℕ → Called → RunCalled
 runShown steps after = record { steps = steps; after = after }
+
+abbrev runWithShown : List ℕ → Called → RunWithCalled
+runWithShown results after = record { results = results; after = after }
 
 pub length-answer : OneResult LengthAnswer.Post
 length-answer κs a r r′ e e′ p q = same p q
@@ -68,6 +75,12 @@ put-step κs a r r′ e e′ p q = same-pair (same (p .0) (q .0)) (same (p .1) (
 pub put-run : OneOutcome PutRun.Post (λ r e. pair r (pair (now (e .0)) (now (e .1 .1 .1 .1 .0))))
 put-run κs a r r′ e e′ p q = same-pair (same (p .0) (q .0)) (same-pair (same (p .1 .0) (q .1 .0)) (same (p .1 .1) (q .1 .1)))
 
+pub results-fit : OneResult ResultsFit.Post
+results-fit κs a r r′ e e′ p q = same p q
+
+pub put-results : OneOutcome PutResults.Post (λ r e. now (e .0))
+put-results κs a r r′ e e′ p q = same p q
+
 pub read-counts : OneOutcome ReadCounts.Post (λ r e. pair r (pair (now (e .1 .0)) (now (e .1 .1 .0))))
 read-counts κs a r r′ e e′ p q = same-pair (same (p .0) (q .0)) (same-pair (same (p .1 .0) (q .1 .0)) (same (p .1 .1) (q .1 .1)))
 
@@ -100,6 +113,9 @@ crowmitten-step κs a r r′ e e′ p q = same p q
 
 pub crowmitten-run : OneOutcome CrowmittenRun.Post (λ r e. runShown (now (e .1 .1 .1 .1 .1 .1 .0)) (called r (now (e .0)) (now (e .1 .1 .0)) (now (e .1 .1 .1 .1 .0))))
 crowmitten-run κs a r r′ e e′ p q = same p q
+
+pub crowmitten-run-with : OneOutcome CrowmittenRunWith.Post (λ r e. runWithShown (now (e .1 .1 .1 .1 .1 .1 .0)) (called r (now (e .0)) (now (e .1 .1 .0)) (now (e .1 .1 .1 .1 .0))))
+crowmitten-run-with κs a r r′ e e′ p q = same p q
 
 pub crowmitten-words-sent : OneOutcome CrowmittenWordsSent.Post (λ r e. counted r (now (e .1 .1 .0)))
 crowmitten-words-sent κs a r r′ e e′ p q = same p q

@@ -22,7 +22,7 @@ use Rattle.addressing.proofs.address_of.Reads as AddressOf
 use Rattle.regions.proofs.region_present.Reads as RegionPresent
 use Rattle.regions.proofs.region_on_chip.Reads as RegionOnChip
 use Rattle.regions.proofs.data_region.Reads as DataRegion
-use Rattle.regions.proofs.data_present.Reads as DataPresent
+use Rattle.regions.proofs.access_outside.Reads as AccessOutside
 use Rattle.regions.proofs.on_chip.Reads as OnChip
 use Rattle.regions.proofs.move_allowed.Reads as MoveAllowed
 use Rattle.regions.proofs.in_rom.Reads as InRom
@@ -114,8 +114,8 @@ region-on-chip κs a r r′ e e′ p q = same p q
 pub data-region : OneResult DataRegion.Post
 data-region κs a r r′ e e′ p q = same p q
 
-pub data-present : OneResult DataPresent.Post
-data-present κs a r r′ e e′ p q = same p q
+pub access-outside : OneResult AccessOutside.Post
+access-outside κs a r r′ e e′ p q = same p q
 
 pub on-chip : OneResult OnChip.Post
 on-chip κs a r r′ e e′ p q = same p q

@@ -4,15 +4,18 @@ use addressing::after_operand;
 use addressing::table_address;
 use answers::Answer;
 use answers::is_done;
+use board::Found;
+use finding::find_operand;
+use finding::outside_by;
 use instructions::Instruction;
 use instructions::Transfers;
 use machine::Machine;
-use pages::Access;
 use pages::Effect;
 use pages::Traits;
 use passes::follow;
 use refusals::pass_refusal;
 use refusals::refuse;
+use steps::Outside;
 use steps::Plan;
 use stores::write_of;
 ghost use mathlib.Core.Path.{_≡_};
@@ -23,25 +26,9 @@ ghost use Rattle.pages.specs.Rules.{ruleOf};
 ghost use Rattle.pages.specs.TransfersRule.{transfersRule};
 ghost use Rattle.board.specs.Windows.{programWord};
 ghost use Rattle.board.specs.Given.{given};
-ghost use Rattle.steps.specs.Pass.{readWord, wordsRead, performed, passPlan};
+ghost use Rattle.steps.specs.Pass.{wordsRead, performed, passPlan};
+ghost use Rattle.steps.specs.OperandFound.{foundFor, outsideBy};
 ghost use Rattle.plans.specs.PassWords.{memoryWords, withPort};
-
-fn word_at(data: &[u16], address: u32) -> u16
-    ensures { λ r. ⌜ r ≡ getD (now («data» .entry)) address 0 ⌝ }
-{
-    let i = address as usize;
-    if i < data.len() { data[i] } else { 0 }
-}
-
-fn read_word(access: Access, data: &[u16], address: u32) -> u16
-    ensures { λ r. ⌜ r ≡ readWord access (now («data» .entry)) address ⌝ }
-{
-    match access {
-        Access::None => 0,
-        Access::Reads => word_at(data, address),
-        Access::Writes => 0,
-    }
-}
 
 // The program word at an address, 0 where there is none.
 pub fn program_word<'a>(cnf: u8, at: u16, rom: &'a [u16], data: &'a [u16]) -> u16
@@ -51,7 +38,7 @@ pub fn program_word<'a>(cnf: u8, at: u16, rom: &'a [u16], data: &'a [u16]) -> u1
     if 0 < window.len() { window[0] } else { 0 }
 }
 
-// The words that a pass reads from the memories.
+// The words that a pass reads from the memories, the operand's found before.
 struct MemoryWords {
     operand: u16,
     second: u16,
@@ -61,17 +48,15 @@ struct MemoryWords {
 
 fn words_read<'a>(
     t: Traits,
-    address: u32,
+    word: u16,
     second: u16,
     rom: &'a [u16],
     data: &'a [u16],
     m: Machine,
 ) -> MemoryWords
-    requires { ⌜ address ≡ addressOf (t .operand) m ⌝ }
+    requires { ⌜ word ≡ foundFor t (now «data») m .word ⌝ }
     ensures { λ r. ⌜ r ≡ memoryWords (wordsRead t second (given (now (rom .entry)) []) (now («data» .entry)) m) ⌝ }
 {
-    let access = t.access;
-    let word = read_word(access, data, address);
     let at = table_address(m, second);
     if t.table {
         let table = program_word(m.cnf, at, rom, data);
@@ -115,32 +100,37 @@ fn rule(i: Instruction, before: Machine, m: Machine, words: MemoryWords, input: 
     }
 }
 
-// A pass that nothing refuses, of an operand at its address.
+// A pass that nothing refuses, of an operand that was found at its address, and what that counts outside.
 fn perform<'a>(
     i: Instruction,
     t: Traits,
     address: u32,
+    found: Found,
+    outside: Outside,
     second: u16,
     rom: &'a [u16],
     data: &'a [u16],
     input: &[u16],
     m: Machine,
 ) -> Plan
-    requires { ⌜ address ≡ addressOf (t .operand) m ⌝ }
+    requires { ⌜ (address ≡ addressOf (t .operand) m) × (found ≡ foundFor t (now «data») m) ⌝ }
+    requires { ⌜ outside ≡ outsideBy (t .access) (found .region) ⌝ }
     ensures { λ r. ⌜ r ≡ performed t i second (given (now (rom .entry)) (now (input .entry))) (now («data» .entry)) m ⌝ }
 {
     let operand = t.operand;
-    let words = words_read(t, address, second, rom, data, m);
+    let region = found.region;
+    let words = words_read(t, found.word, second, rom, data, m);
     let e = rule(i, m, after_operand(m, operand), words, input);
     let after = e.m;
     let jump = e.jump;
     let store = e.store;
     let n = follow(after, jump, t.words, t.repeatable);
-    let write = write_of(store, m.cnf, address, m.output_cursor);
+    let write = write_of(store, region, m.cnf, address, m.output_cursor);
     Plan {
         m: n,
         answer: Answer::Done,
         write,
+        outside,
     }
 }
 
@@ -159,9 +149,13 @@ pub fn plan_pass<'a>(
 {
     let operand = t.operand;
     let address = address_of(m, operand);
-    let answer = pass_refusal(t, address, second, input.len(), output_length, m);
+    let access = t.access;
+    let found = find_operand(access, m.cnf, data, address);
+    let region = found.region;
+    let outside = outside_by(access, region);
+    let answer = pass_refusal(t, region, second, input.len(), output_length, m);
     if is_done(answer) {
-        return perform(i, t, address, second, rom, data, input, m);
+        return perform(i, t, address, found, outside, second, rom, data, input, m);
     }
     refuse(m, answer)
 }

@@ -24,8 +24,10 @@ use Rattle.pages.specs.Addressing.{moved, pointed, modified, addressed, address
 use Rattle.pages.specs.MultiplierPages.{tableAddress}
 use Rattle.board.specs.Regions.{inRom, inProgramB0}
 use Rattle.board.specs.Windows.{windowOf, programWord}
+use Rattle.board.specs.Finding.{foundAt}
 use Rattle.board.specs.Given.{Given}
-use Rattle.steps.specs.Pass.{readWord, wordsRead}
+use Rattle.steps.specs.OperandFound.{operandFound, foundFor}
+use Rattle.steps.specs.Pass.{wordsRead}
 use Rattle.steps.specs.Table.{secondAddress, secondWord}
 use Rattle.ranges.specs.Ranges.{WordsFit}
 use Rattle.ranges.specs.Fields.{NextFits, OperandFits}
@@ -91,11 +93,11 @@ or-none : (t : Bool) (x : ℕ) → x < 2 ^ 16 → cond t x 0 < 2 ^ 16
 or-none true x h = h
 or-none false x h = omega arith
 
-read-lt : (access : Access) (l : List ℕ) (a : ℕ) → WordsFit l → readWord access l a < 2 ^ 16
-unfolding readWord
-read-lt Access.None l a f = omega arith
-read-lt Access.Reads l a f = word-at l a f
-read-lt Access.Writes l a f = omega arith
+found-lt : (access : Access) (cnf : ℕ) (l : List ℕ) (a : ℕ) → WordsFit l → operandFound access cnf l a .word < 2 ^ 16
+unfolding operandFound foundAt
+found-lt Access.None cnf l a f = omega arith
+found-lt Access.Reads cnf l a f = word-at l a f
+found-lt Access.Writes cnf l a f = omega arith
 
 pub second-lt : (x : Instruction) (g : Given) («data» : List ℕ) (m : Machine) → WordsFit (g .rom) → WordsFit «data» → secondWord x g «data» m < 2 ^ 16
 unfolding secondWord
@@ -103,9 +105,9 @@ second-lt x g «data» m f d = or-none (eqb (traitsOf x .words) 2) _ (program-wo
 
 pub words-read : (t : Traits) (second : ℕ) (g : Given) («data» : List ℕ) (m : Machine) → second < 2 ^ 16 → WordsFit (g .rom) → WordsFit «data» → WordsFit (g .input)
     → WordsRead (wordsRead t second g «data» m)
-unfolding wordsRead
+unfolding wordsRead foundFor
 words-read t second g «data» m h f d k = record {
-  operand = read-lt (t .access) «data» (addressOf (t .operand) m) d;
+  operand = found-lt (t .access) (m .cnf) «data» (addressOf (t .operand) m) d;
   second = h;
   table = or-none (t .table) _ (program-word-lt (m .cnf) (tableAddress m second) (g .rom) «data» f d);
   next = word-at (g .input) (m .«input_cursor») k;

@@ -21,6 +21,7 @@ use Rattle.pages.specs.declared.Jump.the-variants.{Past, To}
 use Rattle.pages.specs.Passes.{destination, followed}
 use Rattle.pages.specs.Traits.{traitsOf}
 use Rattle.pages.specs.Addressing.{addressOf}
+use Rattle.board.specs.declared.Region.{Region}
 use Rattle.board.specs.Regions.{moveAllowed}
 use Rattle.board.specs.Slices.{memoriesFit, portFits, slicesFit}
 use Rattle.board.specs.SliceLaws.{slices-fit, port-left}
@@ -28,6 +29,7 @@ use Rattle.board.specs.Given.{Given}
 use Rattle.steps.specs.declared.Write.{Write}
 use Rattle.steps.specs.declared.Write.the-variants as Write
 use Rattle.steps.specs.Rows.{Row, NoneHolds}
+use Rattle.steps.specs.OperandFound.{foundFor}
 use Rattle.steps.specs.Refusals.{takes, sends, inputDry, outputFull, passRows, accessRows, restRows}
 use Rattle.steps.specs.Stores.{writeOf, dataAfter, outputAfter}
 use Rattle.steps.specs.Pass.{wordsRead, effectOf, passedMachine, passedWrite, performed}
@@ -102,12 +104,12 @@ moved-fits : (allowed : Bool) (address word : ℕ) → word < 2 ^ 16 → WordOfW
 moved-fits true address word h = h
 moved-fits false address word h = tt
 
-write-fits : (store : Store) (cnf address cursor : ℕ) → StoreFits store → WordOfWriteFits (writeOf store cnf address cursor)
+write-fits : (store : Store) (region : Region) (cnf address cursor : ℕ) → StoreFits store → WordOfWriteFits (writeOf store region cnf address cursor)
 unfolding writeOf
-write-fits Left.Nothing cnf address cursor h = tt
-write-fits (Left.Word word) cnf address cursor h = h
-write-fits (Left.Move word) cnf address cursor h = moved-fits (moveAllowed cnf address) (address + 1) word h
-write-fits (Left.Sent word) cnf address cursor h = h
+write-fits Left.Nothing region cnf address cursor h = tt
+write-fits (Left.Word word) region cnf address cursor h = h
+write-fits (Left.Move word) region cnf address cursor h = moved-fits (moveAllowed region cnf address) (address + 1) word h
+write-fits (Left.Sent word) region cnf address cursor h = h
 
 -- the slices after a store: as long as before, and of words of 16 bits
 record SlicesKept (write : Write) (d output : List ℕ) : Type 0 where
@@ -142,7 +144,7 @@ module _ (g : Given) (d : List ℕ) (o : ℕ) (x : Instruction) (m : Machine) (f
 
   passed-write : WordOfWriteFits (passedWrite (traitsOf x) x (secondWord x g d m) g d m)
   unfolding passedWrite
-  passed-write = write-fits (effectOf (traitsOf x) x (secondWord x g d m) g d m .store) (m .cnf) (addressOf (traitsOf x .operand) m) (m .«output_cursor») (effect-fits .store)
+  passed-write = write-fits (effectOf (traitsOf x) x (secondWord x g d m) g d m .store) (foundFor (traitsOf x) d m .region) (m .cnf) (addressOf (traitsOf x .operand) m) (m .«output_cursor») (effect-fits .store)
 
 -- ---- the step
 

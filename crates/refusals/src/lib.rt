@@ -2,21 +2,23 @@
 use addressing::table_address;
 use answers::Answer;
 use answers::is_done;
+use board::Region;
 use machine::Machine;
 use pages::Access;
 use pages::Port;
 use pages::Traits;
+use steps::Outside;
 use steps::Plan;
 use steps::Write;
 ghost use mathlib.Core.Path.{_≡_};
 ghost use mathlib.Core.Bool.{not, _&&_, _||_};
-ghost use Rattle.board.specs.Regions.{dataPresent, programPresent};
+ghost use Rattle.board.specs.Regions.{programPresent};
 ghost use Rattle.board.specs.Slices.{portSpent};
 ghost use Rattle.steps.specs.Pass.{refused};
 ghost use Rattle.steps.specs.Rows.{firstGiven};
 ghost use Rattle.steps.specs.Refusals.{accesses, wrongPort, takes, sends, accessRows, restRows, passRefusal};
 
-// A refused step leaves the machine as it is and stores nothing.
+// A refused step leaves the machine as it is, stores nothing and counts nothing.
 pub fn refuse(m: Machine, answer: Answer) -> Plan
     ensures { λ r. ⌜ r ≡ refused m answer ⌝ }
 {
@@ -24,6 +26,10 @@ pub fn refuse(m: Machine, answer: Answer) -> Plan
         m,
         answer,
         write: Write::Nothing,
+        outside: Outside {
+            reads: 0,
+            writes: 0,
+        },
     }
 }
 
@@ -81,25 +87,16 @@ fn is_port_spent(port: Port, input_length: usize, output_length: usize, m: Machi
     }
 }
 
-fn is_data_absent(accessed: bool, cnf: u8, address: u32) -> bool
-    ensures { λ r. ⌜ r ≡ (accessed && not (dataPresent cnf address)) ⌝ }
-{
-    if accessed {
-        return !regions::data_present(cnf, address);
-    }
-    false
-}
-
-// What is asked of the port and of the operand at this address: 9 and 6.
-fn access_refusal(t: Traits, address: u32, m: Machine) -> Answer
-    ensures { λ r. ⌜ r ≡ firstGiven (accessRows t address m) ⌝ }
+// What is asked of the port, and of the operand by its region: 9 and 6.
+fn access_refusal(t: Traits, region: Region) -> Answer
+    ensures { λ r. ⌜ r ≡ firstGiven (accessRows t region) ⌝ }
 {
     let port = t.port;
     let access = t.access;
     if is_wrong_port(port) {
         return Answer::WrongPort;
     }
-    if is_data_absent(is_accessed(access), m.cnf, address) {
+    if is_accessed(access) & !regions::region_present(region) {
         return Answer::DataAbsent;
     }
     Answer::Done
@@ -130,18 +127,18 @@ fn rest_refusal(
     Answer::Done
 }
 
-// The first of the last rows of the order that holds, for an operand at this address.
+// The first of the last rows of the order that holds, for an operand in this region.
 pub fn pass_refusal(
     t: Traits,
-    address: u32,
+    region: Region,
     second: u16,
     input_length: usize,
     output_length: usize,
     m: Machine,
 ) -> Answer
-    ensures { λ r. ⌜ r ≡ passRefusal t address second «input_length» «output_length» m ⌝ }
+    ensures { λ r. ⌜ r ≡ passRefusal t region second «input_length» «output_length» m ⌝ }
 {
-    let asked = access_refusal(t, address, m);
+    let asked = access_refusal(t, region);
     if is_done(asked) {
         return rest_refusal(t, second, input_length, output_length, m);
     }

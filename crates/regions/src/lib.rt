@@ -1,7 +1,9 @@
 // Which data and program addresses are on the board. A data address has 32 bits, as `address_of` gives it; PC has 16.
 use board::Region;
 ghost use mathlib.Core.Path.{_≡_};
-ghost use Rattle.board.specs.Regions.{present, onChipRegion, dataRegion, dataPresent, onChip, moveAllowed, inRom, inProgramB0, programPresent};
+ghost use mathlib.Core.Bool.{true};
+ghost use Prim.Native.Nat.{_<_};
+ghost use Rattle.board.specs.Regions.{present, onChipRegion, accessOutside, dataRegion, onChip, moveAllowed, inRom, inProgramB0, programPresent};
 
 pub fn region_present(region: Region) -> bool
     ensures { λ r. ⌜ r ≡ present region ⌝ }
@@ -27,6 +29,19 @@ pub fn region_on_chip(region: Region) -> bool
     }
 }
 
+// How often one access to a region goes to external RAM.
+pub fn access_outside(region: Region) -> u16
+    ensures { λ r. ⌜ r ≡ accessOutside region ⌝ }
+{
+    match region {
+        Region::Absent => 0,
+        Region::B2 => 0,
+        Region::B0 => 0,
+        Region::B1 => 0,
+        Region::External => 1,
+    }
+}
+
 pub fn data_region(cnf: u8, address: u32) -> Region
     ensures { λ r. ⌜ r ≡ dataRegion cnf address ⌝ }
 {
@@ -45,12 +60,6 @@ pub fn data_region(cnf: u8, address: u32) -> Region
     Region::Absent
 }
 
-pub fn data_present(cnf: u8, address: u32) -> bool
-    ensures { λ r. ⌜ r ≡ dataPresent cnf address ⌝ }
-{
-    region_present(data_region(cnf, address))
-}
-
 // Whether an address is in an on-chip block that is now in data space.
 pub fn on_chip(cnf: u8, address: u32) -> bool
     ensures { λ r. ⌜ r ≡ onChip cnf address ⌝ }
@@ -58,12 +67,13 @@ pub fn on_chip(cnf: u8, address: u32) -> bool
     region_on_chip(data_region(cnf, address))
 }
 
-// Whether a data move copies the word at an address to the next one. The next one is asked for only from an address on chip: there it
-// cannot overflow.
-pub fn move_allowed(cnf: u8, address: u32) -> bool
-    ensures { λ r. ⌜ r ≡ moveAllowed cnf address ⌝ }
+// Whether a data move copies the word that was found in a region, at an address, to the next one. The next one is asked for only from an address on
+// chip: there it cannot overflow.
+pub fn move_allowed(region: Region, cnf: u8, address: u32) -> bool
+    requires { ⌜ (onChipRegion region ≡ true → address < 1024) ⌝ }
+    ensures { λ r. ⌜ r ≡ moveAllowed region cnf address ⌝ }
 {
-    if !on_chip(cnf, address) {
+    if !region_on_chip(region) {
         return false;
     }
     on_chip(cnf, address + 1)

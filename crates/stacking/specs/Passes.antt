@@ -20,13 +20,16 @@ use Rattle.pages.specs.Addressing.{addressed, addressOf}
 use Rattle.pages.specs.MultiplierPages.{APAC, MAC, MACD}
 use Rattle.pages.specs.MultiplierRule.{multiplierRule}
 use Rattle.pages.specs.Rules.{ruleOf}
-use Rattle.board.specs.Regions.{inRom, inProgramB0, moveAllowed}
+use Rattle.board.specs.declared.Region.{Region}
+use Rattle.board.specs.Regions.{dataRegion, inRom, inProgramB0, moveAllowed}
 use Rattle.board.specs.Windows.{windowOf, programWord}
 use Rattle.board.specs.WindowLaws.{rom-word, b0-word}
+use Rattle.board.specs.Finding.{foundAt}
 use Rattle.board.specs.Given.{Given}
 use Rattle.steps.specs.declared.Write.the-variants as Write
 use Rattle.steps.specs.Stores.{writeOf, dataAfter, outputAfter}
-use Rattle.steps.specs.Pass.{readWord, wordsRead, effectOf, passedMachine, passedWrite, performed}
+use Rattle.steps.specs.OperandFound.{operandFound, foundFor}
+use Rattle.steps.specs.Pass.{wordsRead, effectOf, passedMachine, passedWrite, performed}
 use Rattle.steps.specs.World.{World}
 use Rattle.steps.specs.Table.{decodedAt, secondWord}
 use Rattle.steps.specs.Step.{afterStore, stepOf, runOf, worldAfter}
@@ -107,25 +110,25 @@ module _ (g : Given) (w : World) (n : Machine) (a : Alike (w .m) n) (word table 
       }
 
 -- what a data move leaves of the data, whether it is made or not
-module _ (rom : List ℕ) (cnf a word : ℕ) (d : List ℕ) (b : word < 2 ^ 16) where
+module _ (rom : List ℕ) (region : Region) (cnf a word : ℕ) (d : List ℕ) (b : word < 2 ^ 16) where
   record Moved (e : List ℕ) : Type 0 where
     program : (x : ℕ) → programWord cnf x rom e ≡ programWord cnf x rom d
     sized : Sized d → Sized e
 
-  moved-by : (t : Bool) → moveAllowed cnf a ≡ t → Moved (dataAfter (cond t (Write.Data (a + 1) word) Write.Nothing) d)
+  moved-by : (t : Bool) → moveAllowed region cnf a ≡ t → Moved (dataAfter (cond t (Write.Data (a + 1) word) Write.Nothing) d)
   unfolding dataAfter
-  moved-by true e = record { program = move-keeps cnf a word rom d e; sized = λ s. set-sized d (a + 1) word s b }
+  moved-by true e = record { program = move-keeps region cnf a word rom d e; sized = λ s. set-sized d (a + 1) word s b }
   moved-by false e = record { program = λ x. refl; sized = λ s. s }
 
 module _ (g : Given) (w : World) (data-sized : Sized (w .«data»)) where
   goes : (i : Instruction) → Accumulates i
       → Went g w (afterStore (performed (traitsOf i) i (secondWord i g (w .«data») (w .m)) g (w .«data») (w .m)) w) (pairFor (Built i) g w)
-  unfolding afterStore performed passedMachine passedWrite effectOf traitsOf multiplierTraits ruleOf multiplierRule MACD writeOf dataAfter outputAfter wordsRead readWord pairFor
+  unfolding afterStore performed passedMachine passedWrite effectOf traitsOf multiplierTraits ruleOf multiplierRule MACD writeOf dataAfter outputAfter wordsRead foundFor operandFound foundAt pairFor
   goes _ (by-mac a) =
       went g w (addressed (At a) (w .m)) (operand-alike (At a) (w .m)) _ _ _ (w .«data») _ (λ x. refl) (λ s. s)
   goes _ (by-macd a) =
       let word = getD (w .«data») (addressOf (At a) (w .m)) 0 in
-      let v = moved-by (g .rom) (w .m .cnf) (addressOf (At a) (w .m)) word (w .«data») (data-sized .bits (addressOf (At a) (w .m))) (moveAllowed (w .m .cnf) (addressOf (At a) (w .m))) refl in
+      let v = moved-by (g .rom) (dataRegion (w .m .cnf) (addressOf (At a) (w .m))) (w .m .cnf) (addressOf (At a) (w .m)) word (w .«data») (data-sized .bits (addressOf (At a) (w .m))) (moveAllowed (dataRegion (w .m .cnf) (addressOf (At a) (w .m))) (w .m .cnf) (addressOf (At a) (w .m))) refl in
       went g w (addressed (At a) (w .m)) (operand-alike (At a) (w .m)) word _ _ _ _ (v .program) (v .sized)
 
   pub goes-on : (i : Instruction) → Accumulates i → decodedAt g (w .«data») (w .m) ≡ Built i → isDone (stepOf g w .answer) ≡ true
@@ -135,7 +138,7 @@ module _ (g : Given) (w : World) (data-sized : Sized (w .«data»)) where
 
   -- the words of a pass have 16 bits
   pair-sized : (i : Instruction) → Accumulates i → Sized (g .rom) → (pairFor (Built i) g w .dataWord < 2 ^ 16) × (pairFor (Built i) g w .programWord < 2 ^ 16)
-  unfolding pairFor wordsRead readWord traitsOf multiplierTraits
+  unfolding pairFor wordsRead foundFor operandFound foundAt traitsOf multiplierTraits
   pair-sized _ (by-mac a) r = (data-sized .bits _, program-sized _ _ (g .rom) (w .«data») r data-sized)
   pair-sized _ (by-macd a) r = (data-sized .bits _, program-sized _ _ (g .rom) (w .«data») r data-sized)
 

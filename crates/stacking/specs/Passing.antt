@@ -72,7 +72,7 @@ other-place cnf a i B0 l h e f g s = omega arith
 other-place cnf a i B1 l h e f g s = omega arith
 other-place cnf a i External l h e f g s = false≢true h
 
-module _ (cnf a word : ℕ) (rom d : List ℕ) (allowed : moveAllowed cnf a ≡ true) where
+module _ (region : Region) (cnf a word : ℕ) (rom d : List ℕ) (allowed : moveAllowed region cnf a ≡ true) where
   pub move-keeps : (x : ℕ) → programWord cnf x rom (set d (a + 1) word) ≡ programWord cnf x rom d
   unfolding onChip programWord windowOf
   move-keeps x = by (inRom x) (inProgramB0 cnf x) refl refl
@@ -83,6 +83,6 @@ module _ (cnf a word : ℕ) (rom d : List ℕ) (allowed : moveAllowed cnf a ≡ 
           let b = program-b0 cnf x f in
           b0-word cnf x rom (set d (a + 1) word) f
           ∙ getD-set-other d (a + 1) (x - 0xFF00 + 0x200) word 0
-          (other-place cnf (a + 1) (x - 0xFF00 + 0x200) (dataRegion cnf (a + 1)) (region-lies cnf (a + 1)) (moves cnf a allowed .to) (b .cnf-one) (omega arith) (omega arith))
+          (other-place cnf (a + 1) (x - 0xFF00 + 0x200) (dataRegion cnf (a + 1)) (region-lies cnf (a + 1)) (moves region cnf a allowed .to) (b .cnf-one) (omega arith) (omega arith))
           ∙ sym (b0-word cnf x rom d f)
       by false false e f = rw (e, f)

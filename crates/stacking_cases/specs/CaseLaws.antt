@@ -18,14 +18,16 @@ use Rattle.pages.specs.ModesRule.{modesRule}
 use Rattle.pages.specs.MultiplierRule.{multiplierRule}
 use Rattle.pages.specs.Rules.{ruleOf}
 use Rattle.pages.specs.Passes.{followed, destination}
-use Rattle.board.specs.Regions.{dataRegion, dataPresent, inRom, inProgramB0, programPresent}
+use Rattle.board.specs.Finding.{foundAt}
+use Rattle.board.specs.Regions.{dataRegion, inRom, inProgramB0, programPresent}
 use Rattle.board.specs.Slices.{memoriesFit, portFits, portSpent, slicesFit}
 use Rattle.board.specs.Windows.{windowOf, programWord}
 use Rattle.board.specs.Given.{given}
 use Rattle.steps.specs.Rows.{firstGiven}
 use Rattle.steps.specs.Refusals.{accesses, wrongPort, takes, sends, dataAbsent, inputDry, tableAbsent, outputFull, passRows, accessRows, restRows}
 use Rattle.steps.specs.Stores.{writeOf, dataAfter, outputAfter}
-use Rattle.steps.specs.Pass.{readWord, wordsRead, effectOf, passedMachine, passedWrite, performed, planBy}
+use Rattle.steps.specs.OperandFound.{operandFound, foundFor, outsideBy}
+use Rattle.steps.specs.Pass.{wordsRead, effectOf, passedMachine, passedWrite, performed, planBy}
 use Rattle.steps.specs.Table.{checksOf, decodedAt, secondAddress, secondWord, notRepeatable, secondAbsent, tableFor, checkRows, fetchRows, encodingRows, instructionRows, repeatRows}
 use Rattle.steps.specs.Step.{pagePlan, planOf, afterStore, stepOf, runOf}
 use Rattle.answers.specs.Numbers.{numberOf}
@@ -45,5 +47,5 @@ pub record Computed : Type 0 where
   pub one-changed-128 : shown (runWith 127 0x8001 1) ≡ 0 ∷ 130 ∷ 0x7FFF_FE00 ∷ 0 ∷ []
 
 pub computed : Computed
-unfolding signed low holds held settled carry noBorrow added subtracted product productWord leftBy rightBy productShift shiftedProduct productHigh productLow wrappedSum wrappedDifference reversed reversedSum resetMachine inRange lowFits modificationOf nextOf indirectOf addressModeOf decodeOf traitsOf multiplierTraits moved pointed modified addressed addressOf APAC tableAddress multiplierRule ruleOf followed destination dataRegion dataPresent inRom inProgramB0 programPresent memoriesFit portFits portSpent slicesFit windowOf programWord firstGiven accesses wrongPort takes sends dataAbsent inputDry tableAbsent outputFull readWord wordsRead effectOf writeOf passedMachine passedWrite performed dataAfter outputAfter decodedAt secondAddress secondWord notRepeatable secondAbsent tableFor checkRows fetchRows encodingRows instructionRows repeatRows passRows accessRows restRows planBy pagePlan planOf afterStore stepOf modesTraits MAC RPTK modesRule checksOf runOf romWith worldWith runWith
+unfolding signed low holds held settled carry noBorrow added subtracted product productWord leftBy rightBy productShift shiftedProduct productHigh productLow wrappedSum wrappedDifference reversed reversedSum resetMachine inRange lowFits modificationOf nextOf indirectOf addressModeOf decodeOf traitsOf multiplierTraits moved pointed modified addressed addressOf APAC tableAddress multiplierRule ruleOf followed destination dataRegion inRom inProgramB0 programPresent memoriesFit portFits portSpent slicesFit windowOf programWord firstGiven accesses wrongPort takes sends dataAbsent inputDry tableAbsent outputFull foundAt operandFound foundFor outsideBy wordsRead effectOf writeOf passedMachine passedWrite performed dataAfter outputAfter decodedAt secondAddress secondWord notRepeatable secondAbsent tableFor checkRows fetchRows encodingRows instructionRows repeatRows passRows accessRows restRows planBy pagePlan planOf afterStore stepOf modesTraits MAC RPTK modesRule checksOf runOf romWith worldWith runWith
 computed = record { all-127 = refl; all-128-held = refl; all-128-turned-over = refl; all-128-before-the-last = refl; one-changed-128 = refl }

@@ -23,14 +23,16 @@ use Rattle.pages.specs.ModesRule.{modesRule}
 use Rattle.pages.specs.MultiplierRule.{multiplierRule}
 use Rattle.pages.specs.Rules.{ruleOf}
 use Rattle.pages.specs.Passes.{followed, destination}
-use Rattle.board.specs.Regions.{dataRegion, dataPresent, onChip, moveAllowed, inRom, inProgramB0, programPresent}
+use Rattle.board.specs.Finding.{foundAt}
+use Rattle.board.specs.Regions.{dataRegion, onChip, moveAllowed, inRom, inProgramB0, programPresent}
 use Rattle.board.specs.Slices.{memoriesFit, portFits, portSpent, slicesFit}
 use Rattle.board.specs.Windows.{windowOf, programWord}
 use Rattle.board.specs.Given.{given}
 use Rattle.steps.specs.Rows.{firstGiven}
 use Rattle.steps.specs.Refusals.{accesses, wrongPort, takes, sends, dataAbsent, inputDry, tableAbsent, outputFull, passRows, accessRows, restRows}
 use Rattle.steps.specs.Stores.{writeOf, dataAfter, outputAfter}
-use Rattle.steps.specs.Pass.{readWord, wordsRead, effectOf, passedMachine, passedWrite, performed, planBy}
+use Rattle.steps.specs.OperandFound.{operandFound, foundFor, outsideBy}
+use Rattle.steps.specs.Pass.{wordsRead, effectOf, passedMachine, passedWrite, performed, planBy}
 use Rattle.steps.specs.Table.{checksOf, decodedAt, secondAddress, secondWord, notRepeatable, secondAbsent, tableFor, checkRows, fetchRows, encodingRows, instructionRows, repeatRows}
 use Rattle.steps.specs.Step.{pagePlan, planOf, afterStore, stepOf, runOf}
 use Rattle.instructions.specs.declared.Instruction.the-variants as Family
@@ -48,7 +50,7 @@ use Rattle.stacking_cases.specs.EdgeCase.{edgeRom, edgeData, edgeMachine
 use Rattle.stacking_cases.specs.SizedLaws.{allSized, sized-by}
 
 pub edge-case : EdgeCase
-unfolding signed low holds held settled carry added product productWord leftBy rightBy productShift shiftedProduct wrappedSum resetMachine inRange lowFits modificationOf nextOf indirectOf addressModeOf decodeOf traitsOf multiplierTraits moved pointed modified addressed addressOf APAC tableAddress multiplierRule ruleOf followed destination dataRegion dataPresent onChip moveAllowed inRom inProgramB0 programPresent memoriesFit portFits portSpent slicesFit windowOf programWord firstGiven accesses wrongPort takes sends dataAbsent inputDry tableAbsent outputFull readWord wordsRead effectOf writeOf passedMachine passedWrite performed dataAfter outputAfter decodedAt secondAddress secondWord notRepeatable secondAbsent tableFor checkRows fetchRows encodingRows instructionRows repeatRows passRows accessRows restRows planBy pagePlan planOf afterStore stepOf modesTraits MAC MACD RPT modesRule checksOf runOf pairFor pairAt pairsRead words exactSum edgeRom edgeData edgeMachine edgeWorld edgeRun
+unfolding signed low holds held settled carry added product productWord leftBy rightBy productShift shiftedProduct wrappedSum resetMachine inRange lowFits modificationOf nextOf indirectOf addressModeOf decodeOf traitsOf multiplierTraits moved pointed modified addressed addressOf APAC tableAddress multiplierRule ruleOf followed destination dataRegion onChip moveAllowed inRom inProgramB0 programPresent memoriesFit portFits portSpent slicesFit windowOf programWord firstGiven accesses wrongPort takes sends dataAbsent inputDry tableAbsent outputFull foundAt operandFound foundFor outsideBy wordsRead effectOf writeOf passedMachine passedWrite performed dataAfter outputAfter decodedAt secondAddress secondWord notRepeatable secondAbsent tableFor checkRows fetchRows encodingRows instructionRows repeatRows passRows accessRows restRows planBy pagePlan planOf afterStore stepOf modesTraits MAC MACD RPT modesRule checksOf runOf pairFor pairAt pairsRead words exactSum edgeRom edgeData edgeMachine edgeWorld edgeRun
 edge-case = record { comes-to = refl; leaves = refl; reads = refl; exact = refl }
 
 -- *+

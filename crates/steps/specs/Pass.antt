@@ -7,8 +7,6 @@ use Rattle.machine.specs.declared.Machine.{Machine}
 use Rattle.answers.specs.declared.Answer.{Answer}
 use Rattle.answers.specs.declared.Answer.the-variants.{Done}
 use Rattle.instructions.specs.declared.Instruction.{Instruction}
-use Rattle.pages.specs.declared.Access.{Access}
-use Rattle.pages.specs.declared.Access.the-variants as Access
 use Rattle.pages.specs.declared.Traits.{Traits}
 use Rattle.pages.specs.declared.Effect.{Effect}
 use Rattle.pages.specs.Passes.{followed}
@@ -19,6 +17,7 @@ use Rattle.pages.specs.Rules.{ruleOf}
 use Rattle.board.specs.Given.{Given}
 use Rattle.board.specs.Windows.{programWord}
 use Rattle.steps.specs.Rows.{Row}
+use Rattle.steps.specs.OperandFound.{noneOutside, foundFor, outsideBy}
 use Rattle.steps.specs.Refusals.{passRows}
 use Rattle.steps.specs.Stores.{writeOf}
 use Rattle.steps.specs.declared.Write.{Write}
@@ -27,15 +26,10 @@ use Rattle.steps.specs.declared.Plan.{Plan}
 
 -- ---- what a pass reads and does
 
-unfoldable pub readWord : Access → List ℕ → ℕ → ℕ
-readWord Access.None «data» address = 0
-readWord Access.Reads «data» address = getD «data» address 0
-readWord Access.Writes «data» address = 0
-
 -- the words that a pass reads
 unfoldable pub wordsRead : Traits → ℕ → Given → List ℕ → Machine → Words
 wordsRead t second g «data» m = record {
-  operand = readWord (t .access) «data» (addressOf (t .operand) m);
+  operand = foundFor t «data» m .word;
   second = second;
   table = cond (t .table) (programWord (m .cnf) (tableAddress m second) (g .rom) «data») 0;
   at = tableAddress m second;
@@ -55,12 +49,12 @@ passedMachine t i second g «data» m =
 -- and what it stores
 unfoldable pub passedWrite : Traits → Instruction → ℕ → Given → List ℕ → Machine → Write
 passedWrite t i second g «data» m =
-    writeOf (effectOf t i second g «data» m .store) (m .cnf) (addressOf (t .operand) m) (m .«output_cursor»)
+    writeOf (effectOf t i second g «data» m .store) (foundFor t «data» m .region) (m .cnf) (addressOf (t .operand) m) (m .«output_cursor»)
 
 -- ---- the plan of a pass: by value, and nothing is changed yet
 
 abbrev pub refused : Machine → Answer → Plan
-refused m answer = record { m = m; answer = answer; write = Nothing }
+refused m answer = record { m = m; answer = answer; write = Nothing; outside = noneOutside }
 
 -- a plan by a table of answers: the refusal by the first row that holds, and this plan where none does
 unfoldable pub planBy : List Row → Machine → Plan → Plan
@@ -72,7 +66,8 @@ performed t i second g «data» m = record {
   m = passedMachine t i second g «data» m;
   answer = Done;
   write = passedWrite t i second g «data» m;
+  outside = outsideBy (t .access) (foundFor t «data» m .region);
 }
 
 unfoldable pub passPlan : Traits → Instruction → ℕ → Given → List ℕ → ℕ → Machine → Plan
-passPlan t i second g «data» outputLength m = planBy (passRows t (addressOf (t .operand) m) second (length (g .input)) outputLength m) m (performed t i second g «data» m)
+passPlan t i second g «data» outputLength m = planBy (passRows t (foundFor t «data» m .region) second (length (g .input)) outputLength m) m (performed t i second g «data» m)

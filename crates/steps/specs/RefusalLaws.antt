@@ -10,7 +10,8 @@ use Rattle.answers.specs.Numbers.{isDone}
 use Rattle.pages.specs.declared.Port.{Port}
 use Rattle.pages.specs.declared.Port.the-variants as Port
 use Rattle.pages.specs.declared.Traits.{Traits}
-use Rattle.pages.specs.Addressing.{addressOf}
+use Rattle.board.specs.declared.Region.{Region}
+use Rattle.steps.specs.OperandFound.{foundFor}
 use Rattle.steps.specs.Rows.{firstGiven}
 use Rattle.steps.specs.Refusals.{takes, sends, inputDry, tableAbsent, outputFull, accessRows, restRows, passRows, passRefusal}
 use Rattle.steps.specs.RowLaws.{Refusals, all-refuse, first-append, plan-by-first}
@@ -36,25 +37,25 @@ rest-first t second inputLength outputLength m = by (t .port) (portSpent inputLe
     by (Port.Output port) dry true absent = refl
     by (Port.Output port) dry false absent = refl
 
-module _ (t : Traits) (address second inputLength outputLength : ℕ) (m : Machine) where
-  access-refuses : Refusals (accessRows t address m)
+module _ (t : Traits) (region : Region) (second inputLength outputLength : ℕ) (m : Machine) where
+  access-refuses : Refusals (accessRows t region)
   unfolding accessRows
-  access-refuses = all-refuse (accessRows t address m) refl
+  access-refuses = all-refuse (accessRows t region) refl
 
-  pass-refuses : Refusals (passRows t address second inputLength outputLength m)
+  pass-refuses : Refusals (passRows t region second inputLength outputLength m)
   unfolding passRows accessRows restRows
-  pass-refuses = all-refuse (passRows t address second inputLength outputLength m) refl
+  pass-refuses = all-refuse (passRows t region second inputLength outputLength m) refl
 
-  pub pass-first : passRefusal t address second inputLength outputLength m
-      ≡ cond (isDone (firstGiven (accessRows t address m))) (firstGiven (restRows t second inputLength outputLength m)) (firstGiven (accessRows t address m))
+  pub pass-first : passRefusal t region second inputLength outputLength m
+      ≡ cond (isDone (firstGiven (accessRows t region))) (firstGiven (restRows t second inputLength outputLength m)) (firstGiven (accessRows t region))
   unfolding passRefusal passRows
-  pass-first = first-append (accessRows t address m) (restRows t second inputLength outputLength m) access-refuses
+  pass-first = first-append (accessRows t region) (restRows t second inputLength outputLength m) access-refuses
 
 -- a pass by the answer of the first row that refuses it
 pub pass-plan : (t : Traits) (i : Instruction) (second : ℕ) (g : Given) («data» : List ℕ) (outputLength : ℕ) (m : Machine)
     → passPlan t i second g «data» outputLength m
-    ≡ cond (isDone (passRefusal t (addressOf (t .operand) m) second (length (g .input)) outputLength m)) (performed t i second g «data» m)
-    (refused m (passRefusal t (addressOf (t .operand) m) second (length (g .input)) outputLength m))
+    ≡ cond (isDone (passRefusal t (foundFor t «data» m .region) second (length (g .input)) outputLength m)) (performed t i second g «data» m)
+    (refused m (passRefusal t (foundFor t «data» m .region) second (length (g .input)) outputLength m))
 unfolding passPlan passRefusal
 pass-plan t i second g «data» outputLength m =
-    plan-by-first m (performed t i second g «data» m) (passRows t (addressOf (t .operand) m) second (length (g .input)) outputLength m) (pass-refuses t (addressOf (t .operand) m) second (length (g .input)) outputLength m)
+    plan-by-first m (performed t i second g «data» m) (passRows t (foundFor t «data» m .region) second (length (g .input)) outputLength m) (pass-refuses t (foundFor t «data» m .region) second (length (g .input)) outputLength m)

@@ -12,7 +12,8 @@ use Rattle.pages.specs.declared.Port.{Port}
 use Rattle.pages.specs.declared.Port.the-variants as Port
 use Rattle.pages.specs.declared.Traits.{Traits}
 use Rattle.pages.specs.MultiplierPages.{tableAddress}
-use Rattle.board.specs.Regions.{dataPresent, programPresent}
+use Rattle.board.specs.declared.Region.{Region}
+use Rattle.board.specs.Regions.{present, programPresent}
 use Rattle.board.specs.Slices.{portSpent}
 use Rattle.steps.specs.Rows.{Row, row, firstGiven}
 
@@ -39,9 +40,9 @@ sends Port.None = false
 sends (Port.Input port) = false
 sends (Port.Output port) = true
 
--- "data address read or written is absent"
-unfoldable pub dataAbsent : Traits → ℕ → Machine → Bool
-dataAbsent t address m = accesses (t .access) && not (dataPresent (m .cnf) address)
+-- "data address read or written is absent", for an operand in this region
+unfoldable pub dataAbsent : Traits → Region → Bool
+dataAbsent t region = accesses (t .access) && not (present region)
 
 -- "input port dry" (document 02, request 2): an IN with no word left in the input slice
 unfoldable pub inputDry : Traits → ℕ → Machine → Bool
@@ -55,11 +56,11 @@ tableAbsent t second m = t .table && not (programPresent (m .cnf) (tableAddress 
 unfoldable pub outputFull : Traits → ℕ → Machine → Bool
 outputFull t outputLength m = sends (t .port) && portSpent outputLength (m .«output_cursor»)
 
--- what is asked of the port and of the operand, for an operand at this address: 9, 6
-unfoldable pub accessRows : Traits → ℕ → Machine → List Row
-accessRows t address m =
+-- what is asked of the port and of the operand, for an operand in this region: 9, 6
+unfoldable pub accessRows : Traits → Region → List Row
+accessRows t region =
     row "9" WrongPort (wrongPort (t .port))
-    ∷ row "6" DataAbsent (dataAbsent t address m)
+    ∷ row "6" DataAbsent (dataAbsent t region)
     ∷ []
 
 -- what the rest asks: "11 .. after 6 and before the table word's 5", "5 for a MAC or MACD table word, 10"
@@ -71,8 +72,8 @@ restRows t second inputLength outputLength m =
     ∷ []
 
 -- the rows of a pass, the last of the order
-unfoldable pub passRows : Traits → ℕ → ℕ → ℕ → ℕ → Machine → List Row
-passRows t address second inputLength outputLength m = accessRows t address m ++ restRows t second inputLength outputLength m
+unfoldable pub passRows : Traits → Region → ℕ → ℕ → ℕ → Machine → List Row
+passRows t region second inputLength outputLength m = accessRows t region ++ restRows t second inputLength outputLength m
 
-unfoldable pub passRefusal : Traits → ℕ → ℕ → ℕ → ℕ → Machine → Answer
-passRefusal t address second inputLength outputLength m = firstGiven (passRows t address second inputLength outputLength m)
+unfoldable pub passRefusal : Traits → Region → ℕ → ℕ → ℕ → Machine → Answer
+passRefusal t region second inputLength outputLength m = firstGiven (passRows t region second inputLength outputLength m)

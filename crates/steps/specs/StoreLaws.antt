@@ -1,6 +1,7 @@
--- A page that stores a word at its operand's address is one that writes, so that what a step stores lies on the board.
+-- A page that stores a word at its operand's address is one that writes, and every one that writes stores one: what a step stores lies on the board, and its
+-- external writes are the words that it stores in external RAM.
 use mathlib.Core.Path.{_≡_, refl, sym, subst}
-use mathlib.Core.Bool.{Bool, true, false, not, cond, _&&_}
+use mathlib.Core.Bool.{Bool, true, false, not, cond, _&&_, false≢true}
 use mathlib.Core.List.{List}
 use Prim.Native.Nat.{ℕ, _+_, _<_}
 use native.Mathlib.Omega.{arith}
@@ -31,32 +32,44 @@ use Rattle.pages.specs.TransfersRule.{transfersRule}
 use Rattle.pages.specs.declared.Store.{Store}
 use Rattle.pages.specs.declared.Store.the-variants as Left
 use Rattle.pages.specs.declared.Access.{Access}
-use Rattle.pages.specs.declared.Traits.{Traits}
+use Rattle.pages.specs.declared.Access.the-variants as Access
 use Rattle.pages.specs.Traits.{accumulatorTraits, multiplierTraits, auxiliaryTraits, branchesTraits, transfersTraits, modesTraits, traitsOf}
 use Rattle.pages.specs.declared.Words.{Words}
 use Rattle.pages.specs.Rules.{ruleOf}
 use Rattle.pages.specs.Addressing.{addressOf}
-use Rattle.board.specs.Regions.{dataPresent, moveAllowed}
-use Rattle.board.specs.RegionLaws.{present-below, moves}
+use Rattle.board.specs.declared.Region.{Region}
+use Rattle.board.specs.Regions.{present, onChipRegion, onChip, moveAllowed}
+use Rattle.board.specs.RegionLaws.{present-below, on-chip-below, moves}
+use Rattle.board.specs.Finding.{foundAt}
 use Rattle.board.specs.Given.{Given}
 use Rattle.steps.specs.declared.Write.{Write}
 use Rattle.steps.specs.declared.Write.the-variants as Write
+use Rattle.steps.specs.OperandFound.{operandFound, foundFor}
 use Rattle.steps.specs.Refusals.{accesses, dataAbsent}
 use Rattle.steps.specs.Stores.{writeOf}
 use Rattle.steps.specs.Pass.{effectOf, passedWrite}
 
--- a word is stored only where the page accesses its operand
+-- what a page leaves to be stored, by its access: one that writes leaves a word for its operand's address and no other does, and one that makes no access
+-- moves nothing
 abbrev pub StoreAllowed : Access → Store → Type 0
-StoreAllowed access Left.Nothing = Unit {0}
-StoreAllowed access (Left.Word word) = accesses access ≡ true
-StoreAllowed access (Left.Move word) = Unit {0}
-StoreAllowed access (Left.Sent word) = Unit {0}
+StoreAllowed Access.None Left.Nothing = Unit {0}
+StoreAllowed Access.None (Left.Word word) = ⊥
+StoreAllowed Access.None (Left.Move word) = ⊥
+StoreAllowed Access.None (Left.Sent word) = Unit {0}
+StoreAllowed Access.Reads Left.Nothing = Unit {0}
+StoreAllowed Access.Reads (Left.Word word) = ⊥
+StoreAllowed Access.Reads (Left.Move word) = Unit {0}
+StoreAllowed Access.Reads (Left.Sent word) = Unit {0}
+StoreAllowed Access.Writes Left.Nothing = ⊥
+StoreAllowed Access.Writes (Left.Word word) = Unit {0}
+StoreAllowed Access.Writes (Left.Move word) = ⊥
+StoreAllowed Access.Writes (Left.Sent word) = ⊥
 
-none : (access : Access) (store : Store) → store ≡ Left.Nothing → StoreAllowed access store
-none access store e = subst (λ (s : Store). StoreAllowed access s) (sym e) tt
+none : (store : Store) → store ≡ Left.Nothing → StoreAllowed Access.None store
+none store e = subst (λ (s : Store). StoreAllowed Access.None s) (sym e) tt
 
 accumulator-fits : (i : Accumulator) (m : Machine) (w : ℕ) → StoreAllowed (accumulatorTraits i .access) (accumulatorRule i m w .store)
-unfolding accumulatorTraits accumulatorRule accesses
+unfolding accumulatorTraits accumulatorRule
 accumulator-fits (Accumulator.Add s a) m w = tt
 accumulator-fits (Accumulator.Sub s a) m w = tt
 accumulator-fits (Accumulator.Lac s a) m w = tt
@@ -70,8 +83,8 @@ accumulator-fits (Accumulator.Zals a) m w = tt
 accumulator-fits (Accumulator.And a) m w = tt
 accumulator-fits (Accumulator.Or a) m w = tt
 accumulator-fits (Accumulator.Xor a) m w = tt
-accumulator-fits (Accumulator.Sacl s a) m w = refl
-accumulator-fits (Accumulator.Sach s a) m w = refl
+accumulator-fits (Accumulator.Sacl s a) m w = tt
+accumulator-fits (Accumulator.Sach s a) m w = tt
 accumulator-fits (Accumulator.Lack k) m w = tt
 accumulator-fits (Accumulator.Addk k) m w = tt
 accumulator-fits (Accumulator.Subk k) m w = tt
@@ -82,7 +95,7 @@ accumulator-fits Accumulator.Sfl m w = tt
 accumulator-fits Accumulator.Sfr m w = tt
 
 multiplier-fits : (i : Multiplier) (m : Machine) (w : ℕ) (table : ℕ) (at : ℕ) → StoreAllowed (multiplierTraits i .access) (multiplierRule i m w table at .store)
-unfolding multiplierTraits multiplierRule accesses
+unfolding multiplierTraits multiplierRule
 multiplier-fits (Multiplier.Lt a) m w table at = tt
 multiplier-fits (Multiplier.Lta a) m w table at = tt
 multiplier-fits (Multiplier.Ltp a) m w table at = tt
@@ -99,14 +112,14 @@ multiplier-fits (Multiplier.Macd a) m w table at = tt
 multiplier-fits Multiplier.Pac m w table at = tt
 multiplier-fits Multiplier.Apac m w table at = tt
 multiplier-fits Multiplier.Spac m w table at = tt
-multiplier-fits (Multiplier.Spl a) m w table at = refl
-multiplier-fits (Multiplier.Sph a) m w table at = refl
+multiplier-fits (Multiplier.Spl a) m w table at = tt
+multiplier-fits (Multiplier.Sph a) m w table at = tt
 multiplier-fits (Multiplier.Spm k) m w table at = tt
 
 auxiliary-fits : (i : Auxiliary) (before : Machine) (m : Machine) (w : ℕ) → StoreAllowed (auxiliaryTraits i .access) (auxiliaryRule i before m w .store)
-unfolding auxiliaryTraits auxiliaryRule accesses
+unfolding auxiliaryTraits auxiliaryRule
 auxiliary-fits (Auxiliary.Lar r a) before m w = tt
-auxiliary-fits (Auxiliary.Sar r a) before m w = refl
+auxiliary-fits (Auxiliary.Sar r a) before m w = tt
 auxiliary-fits (Auxiliary.Lark r k) before m w = tt
 auxiliary-fits (Auxiliary.Mar a) before m w = tt
 auxiliary-fits (Auxiliary.Adrk k) before m w = tt
@@ -115,7 +128,7 @@ auxiliary-fits (Auxiliary.Ldp a) before m w = tt
 auxiliary-fits (Auxiliary.Ldpk k) before m w = tt
 
 modes-fits : (i : Modes) (m : Machine) (w : ℕ) → StoreAllowed (modesTraits i .access) (modesRule i m w .store)
-unfolding modesTraits modesRule accesses
+unfolding modesTraits modesRule
 modes-fits Modes.Sovm m w = tt
 modes-fits Modes.Rovm m w = tt
 modes-fits Modes.Ssxm m w = tt
@@ -135,22 +148,22 @@ branched-stores false pma m = refl
 branches-fits : (i : Branches) (before m : Machine) (pma : ℕ) → StoreAllowed (branchesTraits i .access) (branchesRule i before m pma .store)
 unfolding branchesTraits branchesRule B BANZ BZ BNZ BGZ BGEZ BLZ BLEZ BV BNV CALL RET
 branches-fits (Branches.B i) before m pma = tt
-branches-fits (Branches.Banz i) before m pma = none _ _ (branched-stores _ _ _)
-branches-fits (Branches.Bz i) before m pma = none _ _ (branched-stores _ _ _)
-branches-fits (Branches.Bnz i) before m pma = none _ _ (branched-stores _ _ _)
-branches-fits (Branches.Bgz i) before m pma = none _ _ (branched-stores _ _ _)
-branches-fits (Branches.Bgez i) before m pma = none _ _ (branched-stores _ _ _)
-branches-fits (Branches.Blz i) before m pma = none _ _ (branched-stores _ _ _)
-branches-fits (Branches.Blez i) before m pma = none _ _ (branched-stores _ _ _)
-branches-fits (Branches.Bv i) before m pma = none _ _ (branched-stores _ _ _)
-branches-fits (Branches.Bnv i) before m pma = none _ _ (branched-stores _ _ _)
+branches-fits (Branches.Banz i) before m pma = none _ (branched-stores _ _ _)
+branches-fits (Branches.Bz i) before m pma = none _ (branched-stores _ _ _)
+branches-fits (Branches.Bnz i) before m pma = none _ (branched-stores _ _ _)
+branches-fits (Branches.Bgz i) before m pma = none _ (branched-stores _ _ _)
+branches-fits (Branches.Bgez i) before m pma = none _ (branched-stores _ _ _)
+branches-fits (Branches.Blz i) before m pma = none _ (branched-stores _ _ _)
+branches-fits (Branches.Blez i) before m pma = none _ (branched-stores _ _ _)
+branches-fits (Branches.Bv i) before m pma = none _ (branched-stores _ _ _)
+branches-fits (Branches.Bnv i) before m pma = none _ (branched-stores _ _ _)
 branches-fits (Branches.Call i) before m pma = tt
 branches-fits Branches.Ret before m pma = tt
 
 transfers-fits : (i : Transfers) (m : Machine) (w next : ℕ) → StoreAllowed (transfersTraits i .access) (transfersRule i m w next .store)
-unfolding transfersTraits transfersRule accesses DMOV IN OUT
+unfolding transfersTraits transfersRule DMOV IN OUT
 transfers-fits (Transfers.Dmov a) m w next = tt
-transfers-fits (Transfers.In port a) m w next = refl
+transfers-fits (Transfers.In port a) m w next = tt
 transfers-fits (Transfers.Out port a) m w next = tt
 
 pub store-fits : (i : Instruction) (before m : Machine) (words : Words) → StoreAllowed (traitsOf i .access) (ruleOf i before m words .store)
@@ -169,27 +182,44 @@ WriteFits (Write.Data address word) size = (size ≡ 4096) × (address < 4096)
 WriteFits (Write.Sent at word) size = Unit {0}
 
 -- an access that is not refused by 6 is present
-present-where : (t present : Bool) → t && not present ≡ false → t ≡ true → present ≡ true
-present-where true true h e = refl
-present-where true false h e = cc
-present-where false present h e = cc
+present-where : (present : Bool) → not present ≡ false → present ≡ true
+present-where true h = refl
+present-where false h = cc
 
-moved-fits : (allowed : Bool) (cnf address word size : ℕ) → moveAllowed cnf address ≡ allowed → size ≡ 4096
-    → WriteFits (cond allowed (Write.Data (address + 1) word) Write.Nothing) size
-moved-fits true cnf address word size e h = let b = moves cnf address e in (h, omega (arith, b .below))
-moved-fits false cnf address word size e h = tt
+-- ---- the store of an access, where 6 does not refuse it
 
-write-fits-for : (t : Traits) (store : Store) (m : Machine) (cursor size : ℕ) → StoreAllowed (t .access) store → size ≡ 4096 → dataAbsent t (addressOf (t .operand) m) m ≡ false
-    → WriteFits (writeOf store (m .cnf) (addressOf (t .operand) m) cursor) size
-unfolding writeOf dataAbsent
-write-fits-for t Left.Nothing m cursor size f h a = tt
-write-fits-for t (Left.Word word) m cursor size f h a =
-    (h, present-below (m .cnf) (addressOf (t .operand) m) (present-where (accesses (t .access)) (dataPresent (m .cnf) (addressOf (t .operand) m)) a f))
-write-fits-for t (Left.Move word) m cursor size f h a = moved-fits (moveAllowed (m .cnf) (addressOf (t .operand) m)) (m .cnf) (addressOf (t .operand) m) word size refl h
-write-fits-for t (Left.Sent word) m cursor size f h a = tt
+module _ (cnf address : ℕ) (d : List ℕ) where
+  -- what is found at the operand's address, and what is stored by a page of this access
+  abbrev regionBy : Access → Region
+  regionBy access = operandFound access cnf d address .region
+
+  abbrev writeBy : Access → Store → ℕ → Write
+  writeBy access store cursor = writeOf store (regionBy access) cnf address cursor
+
+  -- what is found on chip lies below 1,024
+  pub found-below : (access : Access) → onChipRegion (regionBy access) ≡ true → address < 1024
+  unfolding operandFound foundAt onChip
+  found-below Access.None h = absurd (false≢true h)
+  found-below Access.Reads h = on-chip-below cnf address h
+  found-below Access.Writes h = on-chip-below cnf address h
+
+  moved-fits : (allowed : Bool) (region : Region) (word size : ℕ) → moveAllowed region cnf address ≡ allowed → size ≡ 4096
+      → WriteFits (cond allowed (Write.Data (address + 1) word) Write.Nothing) size
+  moved-fits true region word size e h = let b = moves region cnf address e in (h, omega (arith, b .below))
+  moved-fits false region word size e h = tt
+
+  write-fits-by : (access : Access) (store : Store) (cursor size : ℕ) → StoreAllowed access store → size ≡ 4096
+      → accesses access && not (present (regionBy access)) ≡ false → WriteFits (writeBy access store cursor) size
+  unfolding writeOf operandFound accesses
+  write-fits-by access Left.Nothing cursor size f h a = tt
+  write-fits-by Access.None (Left.Word word) cursor size f h a = absurd f
+  write-fits-by Access.Reads (Left.Word word) cursor size f h a = absurd f
+  write-fits-by Access.Writes (Left.Word word) cursor size f h a = (h, present-below cnf address (present-where _ a))
+  write-fits-by access (Left.Move word) cursor size f h a = moved-fits (moveAllowed (regionBy access) cnf address) (regionBy access) word size refl h
+  write-fits-by access (Left.Sent word) cursor size f h a = tt
 
 -- the store of a pass that 6 does not refuse
-pub write-fits : (i : Instruction) (second : ℕ) (g : Given) (d : List ℕ) (m : Machine) → length d ≡ 4096 → dataAbsent (traitsOf i) (addressOf (traitsOf i .operand) m) m ≡ false
+pub write-fits : (i : Instruction) (second : ℕ) (g : Given) (d : List ℕ) (m : Machine) → length d ≡ 4096 → dataAbsent (traitsOf i) (foundFor (traitsOf i) d m .region) ≡ false
     → WriteFits (passedWrite (traitsOf i) i second g d m) (length d)
-unfolding passedWrite effectOf
-write-fits i second g d m h a = write-fits-for (traitsOf i) _ m (m .«output_cursor») (length d) (store-fits i m _ _) h a
+unfolding passedWrite effectOf dataAbsent foundFor
+write-fits i second g d m h a = write-fits-by (m .cnf) (addressOf (traitsOf i .operand) m) d (traitsOf i .access) _ (m .«output_cursor») (length d) (store-fits i m _ _) h a

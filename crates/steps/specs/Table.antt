@@ -14,12 +14,12 @@ use Rattle.instructions.specs.declared.Decoded.{Decoded}
 use Rattle.instructions.specs.declared.Decoded.the-variants.{Built, Unbuilt, Nothing}
 use Rattle.instructions.specs.Decode.{decodeOf, isUnbuilt, isNothing}
 use Rattle.pages.specs.Traits.{traitsOf}
-use Rattle.pages.specs.Addressing.{addressOf}
 use Rattle.board.specs.Given.{Given}
 use Rattle.board.specs.Regions.{programPresent}
 use Rattle.board.specs.Slices.{slicesFit}
 use Rattle.board.specs.Windows.{programWord}
 use Rattle.steps.specs.Rows.{Row, row, firstGiven}
+use Rattle.steps.specs.OperandFound.{foundFor}
 use Rattle.steps.specs.Refusals.{passRows}
 
 -- what the word at PC is
@@ -62,7 +62,7 @@ repeatRows i m = row "7" NotRepeatable (notRepeatable m i) ∷ row "5 for the se
 
 -- of an instruction, where the word is one
 unfoldable pub instructionRows : Decoded → Given → List ℕ → ℕ → Machine → List Row
-instructionRows (Built i) g «data» outputLength m = repeatRows i m ++ passRows (traitsOf i) (addressOf (traitsOf i .operand) m) (secondWord i g «data» m) (length (g .input)) outputLength m
+instructionRows (Built i) g «data» outputLength m = repeatRows i m ++ passRows (traitsOf i) (foundFor (traitsOf i) «data» m .region) (secondWord i g «data» m) (length (g .input)) outputLength m
 instructionRows Unbuilt g «data» outputLength m = []
 instructionRows Nothing g «data» outputLength m = []
 

@@ -12,6 +12,7 @@ use Rattle.instructions.specs.declared.Decoded.{Decoded}
 use Rattle.instructions.specs.declared.Decoded.the-variants.{Built, Unbuilt, Nothing}
 use Rattle.pages.specs.Traits.{traitsOf}
 use Rattle.board.specs.Given.{Given}
+use Rattle.steps.specs.declared.Plan.{Plan}
 use Rattle.steps.specs.Rows.{firstGiven}
 use Rattle.steps.specs.Refusals.{passRows, accessRows, restRows}
 use Rattle.steps.specs.Pass.{performed}
@@ -40,11 +41,17 @@ table-refuses Nothing g «data» outputLength m = all-refuse (tableFor Nothing g
 pub rows-refuse : (g : Given) (w : World) → Refusals (rowsOf g w)
 rows-refuse g w = table-refuses (decodedAt g (w .«data») (w .m)) g (w .«data») (length (w .output)) (w .m)
 
--- a step that is done is what the page's rule makes of the world
+-- a step that is done has the plan of its page's rule
+pub step-plan : (g : Given) (w : World) (i : Instruction) → decodedAt g (w .«data») (w .m) ≡ Built i → stepOf g w .answer ≡ Done
+    → planOf g (w .«data») (length (w .output)) (w .m) ≡ performed (traitsOf i) i (secondWord i g (w .«data») (w .m)) g (w .«data») (w .m)
+unfolding planOf pagePlan
+step-plan g w i d e =
+    let f : isDone (firstGiven (rowsOf g w)) ≡ true = ap isDone (sym (step-answer g w) ∙ e) in
+    plan-done (w .m) (pagePlan (decodedAt g (w .«data») (w .m)) g (w .«data») (w .m)) (rowsOf g w) (none-from (rowsOf g w) (rows-refuse g w) f)
+    ∙ ap (λ (x : Decoded). pagePlan x g (w .«data») (w .m)) d
+
+-- and is what the page's rule makes of the world
 pub step-world : (g : Given) (w : World) (i : Instruction) → decodedAt g (w .«data») (w .m) ≡ Built i → stepOf g w .answer ≡ Done
     → stepOf g w .world ≡ afterStore (performed (traitsOf i) i (secondWord i g (w .«data») (w .m)) g (w .«data») (w .m)) w
-unfolding stepOf planOf pagePlan
-step-world g w i d e =
-    let f : isDone (firstGiven (rowsOf g w)) ≡ true = ap isDone (sym (step-answer g w) ∙ e) in
-    rw (plan-done (w .m) (pagePlan (decodedAt g (w .«data») (w .m)) g (w .«data») (w .m)) (rowsOf g w) (none-from (rowsOf g w) (rows-refuse g w) f))
-    (ap (λ (x : Decoded). afterStore (pagePlan x g (w .«data») (w .m)) w) d)
+unfolding stepOf
+step-world g w i d e = ap (λ (p : Plan). afterStore p w) (step-plan g w i d e)

@@ -1,4 +1,4 @@
-// A pass, a step and a run as definitions, in specs/ alone: the functions that do them stand above. Here are only the types of a store and of a plan.
+// A pass, a step and a run as definitions, in specs/ alone: the functions that do them stand above. Here are only the types of a store, of what is counted outside the chip, and of a plan.
 use answers::Answer;
 use machine::Machine;
 
@@ -9,8 +9,15 @@ pub enum Write {
     Sent(u16, u16),
 }
 
+// Data reads from external RAM, and data writes to it (document 02, request 7).
+pub struct Outside {
+    pub reads: u16,
+    pub writes: u16,
+}
+
 pub struct Plan {
     pub m: Machine,
     pub answer: Answer,
     pub write: Write,
+    pub outside: Outside,
 }

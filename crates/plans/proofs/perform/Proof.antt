@@ -1,8 +1,15 @@
+use mathlib.Core.Path.{ap}
+use Rattle.board.specs.declared.Found.{Found}
+use Rattle.steps.specs.OperandFound.{foundFor}
+use Rattle.steps.specs.StoreLaws.{found-below}
 use Rattle.steps.specs.Pass.{performed, passedMachine, passedWrite, effectOf, wordsRead}
 use Rattle.plans.specs.PassWords.{memoryWords, withPort}
 use borrow.Author.Needs.{needs}
 use Rattle.plans.proofs.perform.Statement.{statement}
 use Rattle.plans.proofs.perform.Tie as tie
+
+words-read-requires : tie.Need-words-read-requires
+words-read-requires c κs = ap (λ (f : Found). f .word) (c .before .before .before .pre .0 .1)
 
 returns : tie.Need-returns
 unfolding performed passedMachine passedWrite effectOf wordsRead memoryWords withPort
@@ -13,16 +20,24 @@ returns c =
       c .before .before .before .rule .ensures,
       c .before .before .before .before .after-operand .ensures,
       c .before .before .before .before .before .words-read .ensures,
-      ← c .before .before .before .before .before .before .before .before .before .pre,
+      c .before .before .before .before .before .before .before .before .before .pre .1,
+      c .before .before .before .before .before .before .before .before .before .pre .0 .1,
+      ← c .before .before .before .before .before .before .before .before .before .pre .0 .0,
     )
+
+write-of-requires : tie.Need-write-of-requires
+unfolding foundFor
+write-of-requires c κs =
+    rw (c .before .before .before .before .before .before .before .before .pre .0 .1, c .before .before .before .before .before .before .before .before .pre .0 .0)
+    (found-below (c .before .before .before .before .before .before .before .before .args .m .cnf) _ (c .before .before .before .before .before .before .before .before .args .«data» .now) (c .before .before .before .before .before .before .before .before .args .t .access))
 
 pub perform-spec : {M : Type 1} → statement M
 perform-spec =
     tie.close
     (tie.spec
+    words-read-requires
     (λ c κs. search needs)
     (λ c κs. search needs)
     (λ c κs. search needs)
-    (λ c κs. search needs)
-    (λ c κs. search needs)
+    write-of-requires
     returns)

@@ -15,7 +15,7 @@ returns-2 c =
       ← c .before .before .before .before .is-wrong-port .ensures,
       c .before .before .before .if1 .left,
       ← c .before .before .is-accessed .ensures,
-      ← c .before .is-data-absent .ensures,
+      ← c .before .region-present .ensures,
       c .if2 .taken,
     )
 
@@ -26,7 +26,7 @@ returns-3 c =
       ← c .before .before .before .before .is-wrong-port .ensures,
       c .before .before .before .if1 .left,
       ← c .before .before .is-accessed .ensures,
-      ← c .before .is-data-absent .ensures,
+      ← c .before .region-present .ensures,
       c .if2 .left,
     )
 

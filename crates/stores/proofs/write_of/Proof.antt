@@ -7,11 +7,11 @@ use borrow.Author.Needs.{needs}
 use Rattle.stores.proofs.write_of.Statement.{statement}
 use Rattle.stores.proofs.write_of.Tie as tie
 
-add-t10 : tie.Need-add-t10
-add-t10 c =
+add-t11 : tie.Need-add-t11
+add-t11 c =
     omega (
       arith,
-      moves (c .before .before .before .before .before .args .cnf) (c .before .before .before .before .before .args .address) (sym (c .before .move-allowed .ensures) ∙ c .if1 .taken) .below,
+      moves _ (c .before .before .before .before .before .args .cnf) (c .before .before .before .before .before .args .address) (sym (c .before .move-allowed .ensures) ∙ c .if1 .taken) .below,
     )
 
 returns : tie.Need-returns
@@ -42,7 +42,7 @@ write-of-spec =
     (λ c. search needs)
     (λ c. search needs)
     (λ c κs. search needs)
-    add-t10
+    add-t11
     returns
     (λ c. search needs)
     returns-2

@@ -1,0 +1,4 @@
+-- definitions
+pub mod Results
+-- laws
+pub mod ResultLaws
