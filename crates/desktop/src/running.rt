@@ -86,7 +86,14 @@ pub extern "C" fn crowmitten_run_with(
         return number_of(Answer::SlicesUnfit);
     }
     if !cells_pass(cells) {
-        put_results(results, 0, Outside { reads: 0, writes: 0 });
+        put_results(
+            results,
+            0,
+            Outside {
+                reads: 0,
+                writes: 0,
+            },
+        );
         return cells_number(cells);
     }
     let ran = run(machine_of(cells), rom, data, input, output, budget);

@@ -37,14 +37,15 @@ kinds-requires : tie.Need-kinds-requires Inv-loop μ-loop
 kinds-requires c κs = tt
 
 loop-holds : tie.Need-loop-holds Inv-loop μ-loop
-loop-holds c =
-    (going-begins _ _ _
-    (sym (c .before .before .before .check .ensures) ∙ done-is _ (sym (c .before .before .is-done .ensures) ∙ not-false _ (c .before .if1 .left)))
-    (words-fit (c .before .before .before .before .before .before .before .before .before .args .rom .now) (λ i. c .before .before .before .before .before .before .before .before .shared-slice-known .given i .fits))
-    (words-fit (c .before .before .before .before .before .before .before .before .before .args .input .now) (λ i. c .before .before .before .before .before .before .shared-slice-known2 .given i .fits))
-    (words-fit (c .before .before .before .before .before .before .before .before .before .args .«data» .now) (λ i. c .before .before .before .before .before .before .before .slice-known .given i .fits))
-    (words-fit (c .before .before .before .before .before .before .before .before .before .args .output .now) (λ i. c .before .before .before .before .before .slice-known2 .given i .fits)),
-    counting-begins _ _ _)
+loop-holds c = (
+  going-begins _ _ _
+      (sym (c .before .before .before .check .ensures) ∙ done-is _ (sym (c .before .before .is-done .ensures) ∙ not-false _ (c .before .if1 .left)))
+      (words-fit (c .before .before .before .before .before .before .before .before .before .args .rom .now) (λ i. c .before .before .before .before .before .before .before .before .shared-slice-known .given i .fits))
+      (words-fit (c .before .before .before .before .before .before .before .before .before .args .input .now) (λ i. c .before .before .before .before .before .before .shared-slice-known2 .given i .fits))
+      (words-fit (c .before .before .before .before .before .before .before .before .before .args .«data» .now) (λ i. c .before .before .before .before .before .before .before .slice-known .given i .fits))
+      (words-fit (c .before .before .before .before .before .before .before .before .before .args .output .now) (λ i. c .before .before .before .before .before .slice-known2 .given i .fits)),
+  counting-begins _ _ _,
+)
 
 apart-requires : tie.Need-apart-requires Inv-loop μ-loop
 apart-requires c κs = tt
@@ -74,41 +75,44 @@ add-totals c =
 
 loop-again : tie.Need-loop-again Inv-loop μ-loop
 loop-again c =
-    let done = sym (c .before .before .before .before .is-done2 .ensures) ∙ not-false _ (c .before .before .before .if3 .left) in
-    (going-on _ _ _ _ _ (c .before .before .before .before .before .before .before .before .before .before .before .before .before .before .loop .inv .0)
-    (stepped (c .before .before .before .before .before .before .before .before .before .checked-step .result) (c .before .before .before .before .before .before .before .before .before .checked-step .last .1 .1 .1 .0) (c .before .before .before .before .before .before .before .before .before .checked-step .last .1 .1 .1 .1 .1 .0))
-    (c .before .before .before .before .before .before .before .before .before .checked-step .ensures .0)
-    (c .before .before .before .before .before .before .before .before .before .before .before .before .before .if2 .left)
-    done
-    (c .before .before .before .before .before .before .before .before .before .checked-step .kept .1 .1 .1 .0)
-    (c .before .before .before .before .before .before .before .before .before .checked-step .kept .1 .1 .1 .1 .1 .0),
-    rw (c .in-one .ensures)
-    (counting-goes _ _ _ _ _ _ (c .before .before .before .before .before .before .before .before .before .before .before .before .before .before .loop .inv .1)
-    (stepped (c .before .before .before .before .before .before .before .before .before .checked-step .result) (c .before .before .before .before .before .before .before .before .before .checked-step .last .1 .1 .1 .0) (c .before .before .before .before .before .before .before .before .before .checked-step .last .1 .1 .1 .1 .1 .0))
-    (c .before .before .before .before .before .before .before .before .before .checked-step .ensures .0)
-    (c .before .before .before .before .before .before .before .before .before .before .before .before .before .if2 .left)
-    done _
-    (c .before .before .before .before .before .before .before .before .before .checked-step .ensures .1)))
+    let done = sym (c .before .before .before .before .is-done2 .ensures) ∙ not-false _ (c .before .before .before .if3 .left) in (
+      going-on _ _ _ _ _ (c .before .before .before .before .before .before .before .before .before .before .before .before .before .before .loop .inv .0)
+          (stepped (c .before .before .before .before .before .before .before .before .before .checked-step .result) (c .before .before .before .before .before .before .before .before .before .checked-step .last .1 .1 .1 .0) (c .before .before .before .before .before .before .before .before .before .checked-step .last .1 .1 .1 .1 .1 .0))
+          (c .before .before .before .before .before .before .before .before .before .checked-step .ensures .0)
+          (c .before .before .before .before .before .before .before .before .before .before .before .before .before .if2 .left)
+          done
+          (c .before .before .before .before .before .before .before .before .before .checked-step .kept .1 .1 .1 .0)
+          (c .before .before .before .before .before .before .before .before .before .checked-step .kept .1 .1 .1 .1 .1 .0),
+      rw (c .in-one .ensures)
+          (counting-goes _ _ _ _ _ _ (c .before .before .before .before .before .before .before .before .before .before .before .before .before .before .loop .inv .1)
+          (stepped (c .before .before .before .before .before .before .before .before .before .checked-step .result) (c .before .before .before .before .before .before .before .before .before .checked-step .last .1 .1 .1 .0) (c .before .before .before .before .before .before .before .before .before .checked-step .last .1 .1 .1 .1 .1 .0))
+          (c .before .before .before .before .before .before .before .before .before .checked-step .ensures .0)
+          (c .before .before .before .before .before .before .before .before .before .before .before .before .before .if2 .left)
+          done _
+          (c .before .before .before .before .before .before .before .before .before .checked-step .ensures .1)),
+    )
 
 returns-2 : tie.Need-returns-2 Inv-loop μ-loop
-returns-2 c =
-    (going-ends _ _ _ _ _ (c .before .before .loop .inv .0) (c .before .if2 .taken),
-    c .apart .ensures ∙ counting-ends _ _ _ _ _ _ (c .before .before .loop .inv .1) (omega (arith, c .before .before .loop .inv .0 .running .within, c .before .before .before .before .before .before .before .before .before .before .before .before .fits .budget)) (c .before .if2 .taken))
+returns-2 c = (
+  going-ends _ _ _ _ _ (c .before .before .loop .inv .0) (c .before .if2 .taken),
+  c .apart .ensures ∙ counting-ends _ _ _ _ _ _ (c .before .before .loop .inv .1) (omega (arith, c .before .before .loop .inv .0 .running .within, c .before .before .before .before .before .before .before .before .before .before .before .before .fits .budget)) (c .before .if2 .taken),
+)
 
 returns-3 : tie.Need-returns-3 Inv-loop μ-loop
 returns-3 c =
-    let refused = sym (c .before .before .before .is-done2 .ensures) ∙ not-true _ (c .before .before .if3 .taken) in
-    (running-stops _ _ _ _ _ (c .before .before .before .before .before .before .before .before .before .before .before .before .before .loop .inv .0 .running)
-    (stepped (c .before .before .before .before .before .before .before .before .checked-step .result) (c .before .before .before .before .before .before .before .before .checked-step .last .1 .1 .1 .0) (c .before .before .before .before .before .before .before .before .checked-step .last .1 .1 .1 .1 .1 .0))
-    (c .before .before .before .before .before .before .before .before .checked-step .ensures .0)
-    (c .before .before .before .before .before .before .before .before .before .before .before .before .if2 .left)
-    refused,
-    c .apart2 .ensures
-    ∙ counting-stops _ _ _ _ _ _ (c .before .before .before .before .before .before .before .before .before .before .before .before .before .loop .inv .1) (omega (arith, c .before .before .before .before .before .before .before .before .before .before .before .before .before .before .before .before .before .before .before .before .before .before .before .fits .budget))
-    (stepped (c .before .before .before .before .before .before .before .before .checked-step .result) (c .before .before .before .before .before .before .before .before .checked-step .last .1 .1 .1 .0) (c .before .before .before .before .before .before .before .before .checked-step .last .1 .1 .1 .1 .1 .0))
-    (c .before .before .before .before .before .before .before .before .checked-step .ensures .0)
-    (c .before .before .before .before .before .before .before .before .before .before .before .before .if2 .left)
-    refused)
+    let refused = sym (c .before .before .before .is-done2 .ensures) ∙ not-true _ (c .before .before .if3 .taken) in (
+      running-stops _ _ _ _ _ (c .before .before .before .before .before .before .before .before .before .before .before .before .before .loop .inv .0 .running)
+          (stepped (c .before .before .before .before .before .before .before .before .checked-step .result) (c .before .before .before .before .before .before .before .before .checked-step .last .1 .1 .1 .0) (c .before .before .before .before .before .before .before .before .checked-step .last .1 .1 .1 .1 .1 .0))
+          (c .before .before .before .before .before .before .before .before .checked-step .ensures .0)
+          (c .before .before .before .before .before .before .before .before .before .before .before .before .if2 .left)
+          refused,
+      c .apart2 .ensures
+          ∙ counting-stops _ _ _ _ _ _ (c .before .before .before .before .before .before .before .before .before .before .before .before .before .loop .inv .1) (omega (arith, c .before .before .before .before .before .before .before .before .before .before .before .before .before .before .before .before .before .before .before .before .before .before .before .fits .budget))
+          (stepped (c .before .before .before .before .before .before .before .before .checked-step .result) (c .before .before .before .before .before .before .before .before .checked-step .last .1 .1 .1 .0) (c .before .before .before .before .before .before .before .before .checked-step .last .1 .1 .1 .1 .1 .0))
+          (c .before .before .before .before .before .before .before .before .checked-step .ensures .0)
+          (c .before .before .before .before .before .before .before .before .before .before .before .before .if2 .left)
+          refused,
+    )
 
 pub run-spec : {M : Type 1} → statement M
 run-spec =

@@ -9,13 +9,13 @@ returns c =
     placed-as _
     (run-replay _
     (c .before .before .before .before .before .before .before .before .before .before .before .before .before .before .before .before .before .before .before .before .before .before .before .before .before .before .before .before .before .before .before .before .pre .0)
-    (c .before .before .before .before .before .before .before .before .before .before .before .before .before .before .before .before .before .before .before .before .before .before .before .before .before .before .before .before .before .before .before .before .pre .1 .1) _
+    (c .before .before .before .before .before .before .before .before .before .before .before .before .before .before .before .before .before .before .before .before .before .before .before .before .before .before .before .before .before .before .before .before .pre .1 .1) (c .before .before .before .before .before .before .before .before .before .before .run .result)
     (c .before .before .before .before .before .before .before .before .before .before .before .before .before .before .before .before .before .before .before .before .before .before .before .before .before .before .before .before .before .before .before .before .pre .1 .0)
     (c .before .before .before .before .before .before .before .before .before .before .before .before .before .before .before .before .before .before .before .before .before .before .set-up .ensures .1 .0)
     (c .before .before .before .before .before .before .before .before .before .before .before .before .before .before .before .before .before .before .before .before .before .before .set-up .ensures .1 .1 .0)
     (c .before .before .before .before .before .before .before .before .before .before .before .before .before .before .before .before .before .before .before .before .before .before .set-up .ensures .1 .1 .1)
     (c .before .before .before .before .before .before .before .before .before .before .before .before .before .before .before .reset .ensures)
-    (c .before .before .before .before .before .before .before .before .before .before .run .ensures))
+    (c .before .before .before .before .before .before .before .before .before .before .run .ensures .0))
     (c .before .before .run-line .ensures)
 
 pub replay-in-spec : {M : Type 1} → statement M

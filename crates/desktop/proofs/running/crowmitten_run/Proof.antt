@@ -33,8 +33,8 @@ returns-2 c =
     (sym (c .before .before .before .before .before .before .before .before .before .before .before .before .before .before .before .before .cells-pass .ensures)
     ∙ not-false _ (c .before .before .before .before .before .before .before .before .before .before .before .before .before .before .before .if1 .left))
     (c .before .before .before .before .before .before .before .before .before .before .before .before .before .machine-of .ensures)
-    (c .before .before .before .before .before .before .before .before .before .before .before .before .before .before .before .before .before .before .before .before .before .before .before .args .budget) _
-    (c .before .before .before .before .before .before .before .before .before .before .run .ensures)
+    (c .before .before .before .before .before .before .before .before .before .before .before .before .before .before .before .before .before .before .before .before .before .before .before .args .budget) (c .before .before .before .before .before .before .before .before .before .before .run .result)
+    (c .before .before .before .before .before .before .before .before .before .before .run .ensures .0)
     (c .before .before .put-run .ensures .1 .0)
     (c .before .before .put-run .ensures .1 .1)
     (c .before .before .put-run .ensures .0)

@@ -30,8 +30,8 @@ returns-2 c =
     (c .before .before .before .before .before .before .before .before .before .before .before .before .before .before .before .before .before .before .before .before .before .before .args .output .now)
     (sym (c .before .before .before .before .before .before .before .before .before .before .before .before .before .before .before .cells-pass .ensures)
     ∙ not-false _ (c .before .before .before .before .before .before .before .before .before .before .before .before .before .before .if1 .left))
-    (c .before .before .before .before .before .before .before .before .before .before .before .before .machine-of .ensures) _
-    (c .before .before .before .before .before .before .before .before .before .step .ensures)
+    (c .before .before .before .before .before .before .before .before .before .before .before .before .machine-of .ensures) (c .before .before .before .before .before .before .before .before .before .step .result)
+    (c .before .before .before .before .before .before .before .before .before .step .ensures .0)
     (c .before .before .put-step .ensures .1)
     (c .before .before .put-step .ensures .0)
 
