@@ -1,7 +1,7 @@
 /*
  * Self-tests of the plain interpreter. Every expected value is taken from the
  * documents: D01 (the scope paper), D02 (the change requests), G n (line n of
- * the guide), Rn (a ruling).
+ * the guide), Rn or Xn (a ruling).
  */
 #include "plain.h"
 
@@ -31,6 +31,7 @@ static uint16_t data[PLAIN_DATA_WORDS + 1];
 static uint16_t input[PLAIN_PORT_WORDS + 1];
 static uint16_t output[PLAIN_PORT_WORDS + 1];
 static size_t rom_len, data_len, input_len, output_len;
+static struct plain_external external; /* of the last step or run */
 
 static void fresh(void)
 {
@@ -45,16 +46,27 @@ static void fresh(void)
     output_len = 4;
 }
 
+/* Counts that a step or a run must set. */
+static const struct plain_external not_set = { 77, 77 };
+
 static int step(void)
 {
+    external = not_set;
     return plain_step(&m, rom, rom_len, data, data_len, input, input_len,
-                      output, output_len);
+                      output, output_len, &external);
 }
 
 static int run(uint16_t budget, uint32_t *steps)
 {
+    external = not_set;
     return plain_run(&m, rom, rom_len, data, data_len, input, input_len,
-                     output, output_len, budget, steps);
+                     output, output_len, budget, steps, &external);
+}
+
+static void expect_external(const char *what, uint32_t reads, uint32_t writes)
+{
+    expect(what, external.reads, reads);
+    expect(what, external.writes, writes);
 }
 
 /* Puts a word at PC and makes the step, which is to be done. */
@@ -71,7 +83,7 @@ static void does2(const char *what, unsigned word, unsigned second)
     does(what, word);
 }
 
-/* The step is refused with this number and changes nothing. */
+/* The step is refused with this number, changes nothing, counts nothing. */
 static void refuses(const char *what, int want)
 {
     static struct plain_machine machine_before;
@@ -81,6 +93,7 @@ static void refuses(const char *what, int want)
     memcpy(data_before, data, sizeof data);
     memcpy(output_before, output, sizeof output);
     expect(what, (uint64_t)step(), (uint64_t)want);
+    expect_external(what, 0, 0);
     expect(what, (uint64_t)memcmp(&machine_before, &m, sizeof m), 0);
     expect(what, (uint64_t)memcmp(data_before, data, sizeof data), 0);
     expect(what, (uint64_t)memcmp(output_before, output, sizeof output), 0);
@@ -740,6 +753,9 @@ static void memory_map(void)
                     data[a + 1] = 0x2222;
                 }
                 expect("data map", (uint64_t)step(), (uint64_t)want);
+                uint32_t far = a >= 0x400 && a <= 0xFFF; /* X2: DMOV reads */
+                expect_external("data map, external", i == 1 ? 0 : far,
+                                i == 1 ? far : 0);
                 if (want == 0 && i == 1)
                     expect("stored", data[a], 0xA5A5);
                 if (i == 2 && a + 1 < PLAIN_DATA_WORDS)
@@ -818,6 +834,7 @@ static void ranges(void)
         expect("above, run 0", (uint64_t)run(0, &steps), 1);
         expect("above, run 9", (uint64_t)run(9, &steps), 1);
         expect("above, steps", steps, 0);
+        expect_external("above, external", 0, 0);
         expect("above, window", (uint64_t)plain_window(&m, rom, rom_len, data,
             data_len, 0, &words, &count), 1);
         expect("above, window count", count, 0);
@@ -855,6 +872,7 @@ static void slices(void)
         refuses("check 2", 2);
         expect("check 2, run 0", (uint64_t)run(0, &steps), 2);
         expect("check 2, steps", steps, 0);
+        expect_external("check 2, external", 0, 0);
         /* R32 */
         bool memories = i <= 3 || i >= 8;
         expect("R32 window", (uint64_t)plain_window(&m, rom, rom_len, data,
@@ -1540,6 +1558,7 @@ static void dry_repeat(void)
     start_frame(4);
     expect("dry", (uint64_t)run(16, &steps), 11);
     expect("dry steps", steps, 5);
+    expect_external("dry external", 0, 4);
     expect("dry RPTC", m.rptc, 1);
     expect("dry MID", m.mid, 1);
     expect("dry PC", m.pc, 1);
@@ -1550,11 +1569,13 @@ static void dry_repeat(void)
     refuses("dry again", 11);
     expect("no new word", (uint64_t)run(11, &steps), 11);
     expect("no new word, steps", steps, 0);
+    expect_external("no new word, external", 0, 0);
     expect("no new word, budget 0", (uint64_t)run(0, &steps), 0);
 
     input_len = 6;
     expect("going on", (uint64_t)run(11, &steps), 0);
     expect("going on, steps", steps, 11);
+    expect_external("going on, external", 6, 2);
     expect("going on, PC", m.pc, 6);
     expect("going on, ACC", m.acc, 7);
     expect("going on, RPTC", m.rptc, 0);
@@ -1572,15 +1593,20 @@ static void run_in_parts(size_t first, size_t words, uint16_t budget)
     uint32_t whole_steps, steps, more = 0;
     start_frame(words);
     int whole = run(budget, &whole_steps);
+    struct plain_external total = external;
     machine = m;
     memcpy(data_whole, data, sizeof data);
     memcpy(output_whole, output, sizeof output);
 
     start_frame(first);
     int answer = run(budget, &steps);
+    struct plain_external first_part = external;
+    external = (struct plain_external){ 0, 0 };
     input_len = words;
     if (answer == 11)
         answer = run((uint16_t)(budget - steps), &more);
+    expect_external("parts, external", total.reads - first_part.reads,
+                    total.writes - first_part.writes);
     expect("parts, answer", (uint64_t)answer, (uint64_t)whole);
     expect("parts, steps", steps + more, whole_steps);
     expect("parts, cells", (uint64_t)memcmp(&machine, &m, sizeof m), 0);
@@ -1596,6 +1622,200 @@ static void dry_parts(void)
         for (size_t first = 0; first <= words; first++)
             for (uint16_t budget = 0; budget <= 18; budget++)
                 run_in_parts(first, words, budget);
+}
+
+/* ---- On-chip or outside (D02, request 7) -------------------------------- */
+
+/* The word at PC is stepped with these counts. */
+static void counts(const char *what, unsigned word, uint32_t reads,
+                   uint32_t writes)
+{
+    does(what, word);
+    expect_external(what, reads, writes);
+}
+
+/* External RAM is 0400h to 0FFFh (D01, "The camera board"). */
+static void outside_borders(void)
+{
+    fresh();
+    m.dp = 8;
+    counts("LAC 400h", 0x2000, 1, 0); /* G 4342 */
+    counts("SACL 400h", 0x6000, 0, 1); /* G 6809 */
+    counts("DMOV 400h", 0x5600, 1, 0); /* G 4168, X2 */
+    m.dp = 6;
+    counts("LAC 300h", 0x2000, 0, 0);
+    m.dp = 7;
+    counts("LAC 3FFh", 0x207F, 0, 0);
+    counts("SACL 3FFh", 0x607F, 0, 0);
+    counts("DMOV 3FFh", 0x567F, 0, 0); /* X2 */
+    counts("DMOV 3FEh", 0x567E, 0, 0); /* moved, on chip */
+    m.dp = 31;
+    counts("LAC FFFh", 0x207F, 1, 0);
+    counts("SACL FFFh", 0x607F, 0, 1);
+    m.dp = 0;
+    counts("LAC 60h", 0x2060, 0, 0);
+    counts("SACL 7Fh", 0x607F, 0, 0);
+    m.dp = 4;
+    counts("LAC 200h", 0x2000, 0, 0);
+    counts("SACL 200h", 0x6000, 0, 0);
+    m.cnf = 1;
+    m.dp = 8;
+    counts("LAC 400h, CNF 1", 0x2000, 1, 0);
+    counts("SACL 400h, CNF 1", 0x6000, 0, 1);
+}
+
+/* What a page does with its word; a word mentioned twice is one read (X1). */
+static void outside_pages(void)
+{
+    fresh();
+    for (int i = 0; i < 8; i++)
+        m.ar[i] = 0x500;
+    m.dp = 10;
+    data[0x500] = 2;
+    counts("SQRA *", 0x3980, 1, 0);    /* X1, G 7372 */
+    counts("SQRS *", 0x5A80, 1, 0);    /* X1, G 7433 */
+    counts("LTD *", 0x3F80, 1, 0);     /* X1, X2, G 5134 */
+    counts("MAR *", 0x5580, 0, 0);     /* X4, R8 */
+    counts("MAR 0", 0x5500, 0, 0);
+    counts("SAR AR3", 0x7300, 0, 1);   /* G 6862 */
+    counts("LAR AR4", 0x3400, 1, 0);   /* G 4533 */
+    counts("SPH", 0x7D00, 0, 1);       /* G 7242 */
+    counts("IN", 0x8000, 0, 1);        /* X3: the port is not counted */
+    counts("OUT", 0xE100, 1, 0);       /* X3 */
+    data[0x500] = 2;
+    counts("RPT", 0x4B00, 1, 0);       /* R8 */
+    counts("LAC, repeated", 0x2080, 1, 0);
+    counts("LAC, repeated again", 0x2080, 1, 0);
+    counts("LAC, the last", 0x2080, 1, 0);
+    counts("LDP", 0x5280, 1, 0);       /* R8 */
+    m.dp = 10;
+    counts("LACK", 0xCA05, 0, 0);
+    counts("PUSH", 0xCE1C, 0, 0);
+    rom[m.pc + 1] = 0x0400;            /* an address of the program: X3, X4 */
+    counts("CALL *", 0xFE80, 0, 0);
+    rom[m.pc + 1] = 0x0500;
+    counts("B *", 0xFF80, 0, 0);
+    rom[m.pc + 1] = 0x0600;
+    counts("MAC *", 0x5D80, 1, 0);     /* X1, X3: one data word, G 5281 */
+    m.ar[0] = 0x300;
+    counts("MAC *, on chip", 0x5D80, 0, 0);
+    counts("MACD *, on chip", 0x5C80, 0, 0); /* moved there, G 5420 */
+}
+
+/* A refused step counts nothing, though its word was there to be read. */
+static void outside_refused(void)
+{
+    fresh();
+    m.dp = 8; m.output_cursor = 4; rom[0] = 0xE100;
+    refuses("OUT 400h, full", 10);
+    rom[0] = 0x8000; m.input_cursor = 4;
+    refuses("IN 400h, dry", 11);
+    rom[0] = 0x5D00; rom[1] = 0x1000;
+    refuses("MAC 400h, no table word", 5);
+    m.rptc = 1; rom[0] = 0x4B00;
+    refuses("RPT 400h, not repeatable", 7);
+}
+
+/*
+ * The pages that read (dma), and those that store into it, by the Execution
+ * lines of section 4.3 (G 2252 to 8540). No other page has a data word.
+ */
+static void outside_words(void)
+{
+    static const char *const reading[] = { "ADD", "ADDH", "ADDS", "AND",
+        "DMOV", "LAC", "LAR", "LDP", "LT", "LTA", "LTD", "LTP", "LTS", "MAC",
+        "MACD", "MPY", "MPYA", "MPYS", "OR", "OUT", "RPT", "SQRA", "SQRS",
+        "SUB", "SUBC", "SUBH", "SUBS", "XOR", "ZALH", "ZALS", NULL };
+    static const char *const writing[] = { "IN", "SACH", "SACL", "SAR", "SPH",
+        "SPL", NULL };
+    fresh();
+    for (uint32_t word = 0; word < 0x10000; word++)
+        for (uint32_t far = 0; far <= 1; far++) {
+            const char *name = plain_name((uint16_t)word);
+            plain_reset(&m);
+            m.dp = far ? 8 : 6;
+            m.ar[0] = far ? 0x400 : 0x300;
+            rom[0] = (uint16_t)word;
+            bool done = step() == PLAIN_DONE;
+            expect_external("every word", far && done && listed(name, reading),
+                            far && done && listed(name, writing));
+        }
+}
+
+/* RPTK 3; MAC 40h,*+ or MACD 40h,*+ from 3FEh: two of four words outside. */
+static void outside_repeat(unsigned word)
+{
+    uint32_t steps;
+    fresh();
+    rom[0] = 0xCB03; rom[1] = (uint16_t)word; rom[2] = 0x0040;
+    m.arp = 1; m.ar[1] = 0x3FE;
+    for (int i = 0x3FE; i <= 0x402; i++)
+        data[i] = (uint16_t)i;
+    expect("RPTK 3", (uint64_t)run(5, &steps), 0);
+    expect("RPTK 3, steps", steps, 5);
+    expect_external("RPTK 3, external", 2, 0); /* X1, X2, X3 */
+    expect("RPTK 3, AR1", m.ar[1], 0x402);
+}
+
+/* A run has the totals over its steps, the refused one not among them. */
+static void outside_runs(void)
+{
+    uint32_t steps;
+    outside_repeat(0x5DA0);
+    expect("MAC moves nothing", data[0x3FF], 0x3FF);
+    outside_repeat(0x5CA0);
+    expect("MACD within B1", data[0x3FF], 0x3FE);
+    expect("MACD past B1", data[0x400], 0x400);
+    expect("MACD outside", data[0x401], 0x401);
+
+    /* LAC 400h; SACL 401h; a word in no encoding. */
+    fresh();
+    m.dp = 8; rom[0] = 0x2000; rom[1] = 0x6001; rom[2] = 0x00B0;
+    expect("third refused", (uint64_t)run(9, &steps), 3);
+    expect("third refused, steps", steps, 2);
+    expect_external("third refused, external", 1, 1);
+    expect("refused again", (uint64_t)run(7, &steps), 3);
+    expect_external("refused again, external", 0, 0);
+
+    /* LAC 400h; OUT 400h twice, with room for one word. */
+    fresh();
+    m.dp = 8; rom[0] = 0x2000; rom[1] = rom[2] = 0xE100; output_len = 1;
+    expect("output full", (uint64_t)run(3, &steps), 10);
+    expect("output full, steps", steps, 2);
+    expect_external("output full, external", 2, 0);
+
+    m.pc = 0;
+    expect("budget 0", (uint64_t)run(0, &steps), 0);
+    expect_external("budget 0, external", 0, 0);
+}
+
+/* 255 times RPTK 255 and a word: 65,535 steps, exact totals (X5). */
+static void outside_longest(unsigned word, uint32_t reads, uint32_t writes)
+{
+    uint32_t steps;
+    fresh();
+    m.ar[0] = 0xFFF;
+    for (int i = 0; i < 510; i += 2) {
+        rom[i] = 0xCBFF;
+        rom[i + 1] = (uint16_t)word;
+    }
+    expect("longest run", (uint64_t)run(65535, &steps), 0);
+    expect("longest run, steps", steps, 65535);
+    expect_external("longest run, external", reads, writes);
+}
+
+/* Every way to make a run of 16 steps in two: the totals are the sums. */
+static void outside_parts(void)
+{
+    uint32_t steps;
+    for (uint16_t first = 0; first <= 16; first++) {
+        start_frame(6);
+        expect("first part", (uint64_t)run(first, &steps), 0);
+        struct plain_external part = external;
+        expect("second part", (uint64_t)run((uint16_t)(16 - first), &steps), 0);
+        expect("parts, reads", part.reads + external.reads, 6);
+        expect("parts, writes", part.writes + external.writes, 6);
+    }
 }
 
 /* SOVM (G 7172), ROVM (R6), SSXM (G 7614), RSXM (G 6639), CNFD, CNFP. */
@@ -1758,6 +1978,8 @@ static void random_worlds(void)
             memcpy(output_before, output, sizeof output);
             if (step() == PLAIN_DONE) {
                 done++;
+                expect("random: external",
+                       external.reads <= 1 && external.writes <= 1, 1);
                 expect("random: in range", (uint64_t)run(0, &steps), 0);
                 for (uint32_t a = 0; a < 0x300; a++)
                     if (before[a] != data[a])
@@ -1765,6 +1987,7 @@ static void random_worlds(void)
                                there(machine_before.cnf, a), 1);
                 continue;
             }
+            expect_external("random: refused, external", 0, 0);
             expect("random: refused, cells",
                    (uint64_t)memcmp(&machine_before, &m, sizeof m), 0);
             expect("random: refused, data",
@@ -1976,6 +2199,14 @@ int main(void)
     dry_others();
     dry_repeat();
     dry_parts();
+    outside_borders();
+    outside_pages();
+    outside_refused();
+    outside_words();
+    outside_runs();
+    outside_longest(0x2080, 65280, 0); /* LAC * */
+    outside_longest(0x6080, 0, 65280); /* SACL * */
+    outside_parts();
     modes();
     fields();
     shifted_products();

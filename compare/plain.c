@@ -346,9 +346,15 @@ static bool on_chip(uint32_t cnf, uint32_t address)
     return address >= 0x300 && address <= 0x3FF;
 }
 
+/* In external RAM (D01, "The camera board"), whatever CNF is. */
+static bool outside(uint32_t address)
+{
+    return address >= 0x400 && address <= 0xFFF;
+}
+
 static bool data_present(uint32_t cnf, uint32_t address)
 {
-    return on_chip(cnf, address) || (address >= 0x400 && address <= 0xFFF);
+    return on_chip(cnf, address) || outside(address);
 }
 
 int plain_window(const struct plain_machine *machine,
@@ -529,7 +535,28 @@ struct pass {
     uint32_t operand;       /* the data word, where the page reads one */
     uint32_t table_address; /* MAC, MACD */
     uint32_t table_word;
+    struct plain_external external; /* the accesses made so far */
 };
+
+/*
+ * The one place where a data word is read. A pass keeps the word, so that one
+ * which its page mentions twice is read once (X1).
+ */
+static uint32_t load_word(const struct board *b, struct pass *pass)
+{
+    if (outside(pass->address))
+        pass->external.reads++;
+    return b->data[pass->address];
+}
+
+/* The one place where a data word is written. */
+static void store_word(const struct board *b, struct pass *pass,
+                       uint32_t address, uint32_t value)
+{
+    if (outside(address))
+        pass->external.writes++;
+    b->data[address] = (uint16_t)(value & 0xFFFF);
+}
 
 /* The order of D01 and D02, 8 retired: 1, 2, 5, 3, 4, 7, 5, 9, 6, 11, 5, 10. */
 static int refused(const struct plain_machine *m, const struct board *b,
@@ -575,7 +602,7 @@ static int refused(const struct plain_machine *m, const struct board *b,
         if (!data_present(m->cnf, pass->address))
             return PLAIN_DATA_ABSENT;
         if (row->access == READS)
-            pass->operand = b->data[pass->address];
+            pass->operand = load_word(b, pass);
     }
 
     /* Nothing is stored for a missing word (D02, request 2). */
@@ -597,18 +624,17 @@ static int refused(const struct plain_machine *m, const struct board *b,
 
 /* ---- A step: the pages -------------------------------------------------- */
 
-static void store(const struct board *b, const struct pass *pass,
-                  uint32_t value)
+static void store(const struct board *b, struct pass *pass, uint32_t value)
 {
-    b->data[pass->address] = (uint16_t)(value & 0xFFFF);
+    store_word(b, pass, pass->address, value);
 }
 
-/* DMOV (G 4150): only within on-chip blocks now in data space (D01). */
+/* DMOV (G 4150): only within on-chip blocks now in data space (D01, X2). */
 static void move_data(const struct plain_machine *m, const struct board *b,
-                      const struct pass *pass)
+                      struct pass *pass)
 {
     if (on_chip(m->cnf, pass->address) && on_chip(m->cnf, pass->address + 1))
-        b->data[pass->address + 1] = (uint16_t)pass->operand;
+        store_word(b, pass, pass->address + 1, pass->operand);
 }
 
 /* MAC (G 5281), MACD (G 5420): the old product is added (D01). */
@@ -634,7 +660,7 @@ static uint32_t constant13(uint32_t word)
  */
 static uint32_t perform(struct plain_machine *m,
                         const struct plain_machine *old,
-                        const struct board *b, const struct pass *pass)
+                        const struct board *b, struct pass *pass)
 {
     uint32_t low_byte = pass->word & 0xFF;
     uint32_t reg = (pass->word >> 8) & 7;        /* LAR, SAR, LARK */
@@ -918,8 +944,9 @@ static uint32_t perform(struct plain_machine *m,
     return next;
 }
 
-/* D01, "Steps, repeats and runs". */
-static int step(struct plain_machine *m, const struct board *b)
+/* D01, "Steps, repeats and runs". What the pass counts is added to *total. */
+static int step(struct plain_machine *m, const struct board *b,
+                struct plain_external *total)
 {
     struct pass pass;
     int answer = refused(m, b, &pass);
@@ -940,6 +967,8 @@ static int step(struct plain_machine *m, const struct board *b)
         m->mid = 0;
         m->pc = next;
     }
+    total->reads += pass.external.reads;
+    total->writes += pass.external.writes;
     return PLAIN_DONE;
 }
 
@@ -947,11 +976,13 @@ int plain_step(struct plain_machine *machine,
                const uint16_t *rom, size_t rom_len,
                uint16_t *data, size_t data_len,
                const uint16_t *input, size_t input_len,
-               uint16_t *output, size_t output_len)
+               uint16_t *output, size_t output_len,
+               struct plain_external *external)
 {
     const struct board board = { rom, rom_len, data, data_len,
                                  input, input_len, output, output_len };
-    return step(machine, &board);
+    *external = (struct plain_external){ 0, 0 };
+    return step(machine, &board, external);
 }
 
 int plain_run(struct plain_machine *machine,
@@ -959,18 +990,20 @@ int plain_run(struct plain_machine *machine,
               uint16_t *data, size_t data_len,
               const uint16_t *input, size_t input_len,
               uint16_t *output, size_t output_len,
-              uint16_t budget, uint32_t *steps)
+              uint16_t budget, uint32_t *steps,
+              struct plain_external *external)
 {
     const struct board board = { rom, rom_len, data, data_len,
                                  input, input_len, output, output_len };
     *steps = 0;
+    *external = (struct plain_external){ 0, 0 };
     /* Budget 0 makes checks 1 and 2 only. */
     if (!cells_in_range(machine))
         return PLAIN_CELL_OUT_OF_RANGE;
     if (!slices_right(machine, &board))
         return PLAIN_SLICE_WRONG;
     while (*steps < budget) {
-        int answer = step(machine, &board);
+        int answer = step(machine, &board, external);
         if (answer != PLAIN_DONE)
             return answer;
         (*steps)++;
@@ -1141,10 +1174,11 @@ void plain_replay(const uint8_t *bytes, size_t length,
 
     struct plain_machine m;
     uint32_t steps;
+    struct plain_external external; /* the line does not tell it */
     plain_reset(&m);
     answer = plain_run(&m, rom, PLAIN_ROM_WORDS, data, PLAIN_DATA_WORDS,
                        input, contents.input_count, output, PLAIN_PORT_WORDS,
-                       contents.budget, &steps);
+                       contents.budget, &steps, &external);
 
     int at = snprintf(line, PLAIN_LINE_ROOM, "%d %u %04X %08X %u", answer,
                       (unsigned)steps, (unsigned)m.pc, (unsigned)m.acc,

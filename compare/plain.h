@@ -3,7 +3,7 @@
  * documents alone. It is the second opinion on the proved emulator.
  *
  * "D01" is the scope paper, "D02" the change requests, "G n" line n of the
- * guide's text (document 003), "Rn" a ruling on an open point.
+ * guide's text (document 003), "Rn" or "Xn" a ruling on an open point.
  */
 #ifndef PLAIN_H
 #define PLAIN_H
@@ -80,20 +80,34 @@ _Static_assert(sizeof(struct plain_machine) == PLAIN_CELLS * sizeof(uint32_t),
 /* Reset (G 1148; D01, "The cells of the machine"). */
 void plain_reset(struct plain_machine *machine);
 
-/* One pass. Gives 0, or the number of a refusal that changed nothing. */
+/* The data words read from and written to external RAM (D02, request 7). */
+struct plain_external {
+    uint32_t reads;
+    uint32_t writes;
+};
+
+/*
+ * One pass. Gives 0, or the number of a refusal that changed nothing;
+ * *external is what the pass counts, nothing where it is refused.
+ */
 int plain_step(struct plain_machine *machine,
                const uint16_t *rom, size_t rom_len,
                uint16_t *data, size_t data_len,
                const uint16_t *input, size_t input_len,
-               uint16_t *output, size_t output_len);
+               uint16_t *output, size_t output_len,
+               struct plain_external *external);
 
-/* At most `budget` steps; *steps is the count of the steps done. */
+/*
+ * At most `budget` steps; *steps is the count of the steps done, *external
+ * the totals over them.
+ */
 int plain_run(struct plain_machine *machine,
               const uint16_t *rom, size_t rom_len,
               uint16_t *data, size_t data_len,
               const uint16_t *input, size_t input_len,
               uint16_t *output, size_t output_len,
-              uint16_t budget, uint32_t *steps);
+              uint16_t budget, uint32_t *steps,
+              struct plain_external *external);
 
 /* The fetch window at a program address: 0, 1, 2 or 5; empty when refused. */
 int plain_window(const struct plain_machine *machine,

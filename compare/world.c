@@ -39,12 +39,13 @@ bool wide_untouched(void)
 struct outcome step_plain(struct world *w)
 {
     struct side *s = &w->plain;
+    struct plain_external external;
     if (w->cells_length != PLAIN_CELLS)
         return (struct outcome){ PLAIN_SLICE_WRONG, 0 };
     int answer = plain_step(&s->machine, lent_rom(w), w->rom_length,
                             lent_data(w, s), w->data_length,
                             lent_input(w), w->input_length,
-                            lent_output(w, s), w->output_length);
+                            lent_output(w, s), w->output_length, &external);
     return (struct outcome){ (uint32_t)answer, 0 };
 }
 
@@ -62,6 +63,7 @@ struct outcome step_proved(struct world *w)
 struct outcome run_plain(struct world *w, uint16_t budget)
 {
     struct side *s = &w->plain;
+    struct plain_external external;
     if (w->cells_length != PLAIN_CELLS)
         return (struct outcome){ PLAIN_SLICE_WRONG, 0 };
     uint32_t steps = 0;
@@ -69,7 +71,7 @@ struct outcome run_plain(struct world *w, uint16_t budget)
                            lent_data(w, s), w->data_length,
                            lent_input(w), w->input_length,
                            lent_output(w, s), w->output_length,
-                           budget, &steps);
+                           budget, &steps, &external);
     return (struct outcome){ (uint32_t)answer, steps };
 }
 
