@@ -4,7 +4,14 @@
 
 #include <stdint.h>
 
-enum { KIND_STEP = 1, KIND_RUN, KIND_FILE, KIND_VIEW, KIND_WORD };
+enum {
+    KIND_STEP = 1,
+    KIND_RUN,
+    KIND_FILE,
+    KIND_VIEW,
+    KIND_WORD,
+    KIND_RESULTS = 16 /* added to a kind, for the results lent to its cases */
+};
 
 /* Every call of the library with empty slices, lent as NULL. */
 void compare_empty(void);

@@ -6,6 +6,7 @@
  */
 #include "cases.h"
 #include "report.h"
+#include "results.h"
 #include "words.h"
 
 #include <inttypes.h>
@@ -29,6 +30,7 @@ static int compare_all(uint64_t cases, uint64_t seed)
     compare_words(seed);
     compare_steps(seed, cases);
     compare_runs(seed, cases / 50);
+    print_results();
     compare_files(seed, cases / 50);
     compare_views(seed, cases / 50);
     if (!wide_untouched() && report_difference("all cases, up to", seed, cases))

@@ -70,17 +70,48 @@ void report_words(const char *what, const uint16_t *plain,
         printf("  %s: %zu words differ\n", what, found);
 }
 
+void report_outcomes(const struct outcomes *out)
+{
+    const struct outcome *a = &out->plain;
+    const struct outcome *c = &out->counted;
+    printf("  plain's answer %" PRIu32 ", steps %" PRIu32 ", external reads %"
+           PRIu32 ", writes %" PRIu32 "\n", a->answer, a->steps, a->reads,
+           a->writes);
+    report_number("answer", a->answer, out->proved.answer);
+    report_number("steps", a->steps, out->proved.steps);
+    report_number("run_with: answer", a->answer, c->answer);
+    report_number("run_with: steps", a->steps, c->steps);
+    report_number("run_with: external reads", a->reads, c->reads);
+    report_number("run_with: external writes", a->writes, c->writes);
+    report_number("run_with: changed behind the results", a->past, c->past);
+}
+
+static void report_changed_cells(const char *call, const uint32_t *plain,
+                                 const uint32_t *proved)
+{
+    for (int i = 0; i < CELL_ROOM; i++)
+        if (plain[i] != proved[i])
+            printf("  %s%s after: plain %" PRIX32 ", proved %" PRIX32 "\n",
+                   call, i < PLAIN_CELLS ? cell_names[i] : "past the cells",
+                   plain[i], proved[i]);
+}
+
 void report_sides(const struct world *w)
 {
     const struct side *a = &w->plain;
     const struct side *b = &w->proved;
-    for (int i = 0; i < CELL_ROOM; i++)
-        if (a->cells[i] != b->cells[i])
-            printf("  %s after: plain %" PRIX32 ", proved %" PRIX32 "\n",
-                   i < PLAIN_CELLS ? cell_names[i] : "past the cells",
-                   a->cells[i], b->cells[i]);
+    report_changed_cells("", a->cells, b->cells);
     report_words("data", a->data, b->data, MEMORY_ROOM);
     report_words("output", a->output, b->output, PORT_ROOM);
+}
+
+void report_counted(const struct world *w)
+{
+    const struct side *a = &w->plain;
+    const struct side *c = &w->counted;
+    report_changed_cells("run_with: ", a->cells, c->cells);
+    report_words("run_with: data", a->data, c->data, MEMORY_ROOM);
+    report_words("run_with: output", a->output, c->output, PORT_ROOM);
 }
 
 int report_end(void)

@@ -17,8 +17,14 @@ void report_cells(const char *what, const uint32_t *cells);
 
 void report_lengths(const struct world *w);
 
-/* The cells, data and output words in which the sides differ. */
+/* What was handed out, where the sides differ. */
+void report_outcomes(const struct outcomes *out);
+
+/* The cells, data and output words in which the proved side differs. */
 void report_sides(const struct world *w);
+
+/* The same of the counted side, the library by crowmitten_run_with. */
+void report_counted(const struct world *w);
 
 /* The first words that differ. */
 void report_words(const char *what, const uint16_t *plain,

@@ -6,6 +6,7 @@
  */
 #include "cases.h"
 #include "report.h"
+#include "results.h"
 #include "words.h"
 
 #include "crowmitten.h"
@@ -26,6 +27,14 @@ static uint64_t continued_runs;
 static uint64_t continued_steps;
 static uint64_t calls_with_words;
 static uint64_t calls_without;
+
+/* External reads and writes (D02, request 7), and the runs that have them. */
+static uint64_t external_reads;
+static uint64_t external_writes;
+static uint64_t runs_reading;
+static uint64_t runs_writing;
+static uint64_t runs_with_neither;
+static uint64_t refused_with_some;
 
 static struct world world;
 static struct world start;
@@ -282,34 +291,32 @@ static void report_first_step(uint32_t steps)
     for (uint32_t i = 0; i <= steps; i++) {
         struct side before = world.plain;
         uint16_t word = (uint16_t)program_word(&world, before.machine.pc);
-        struct outcome plain = step_plain(&world);
-        struct outcome proved = step_proved(&world);
-        if (outcomes_same(plain, proved) && sides_same(&world))
+        struct outcomes out = step_all(&world);
+        if (all_same(&world, &out))
             continue;
         printf("  first at step %" PRIu32 ", word %04X (%s)\n", i + 1, word,
                plain_name(word));
         report_cells("cells before it", before.cells);
-        report_number("answer", plain.answer, proved.answer);
+        report_outcomes(&out);
         report_sides(&world);
+        report_counted(&world);
         return;
     }
     printf("  step by step the two agree\n");
 }
 
 static void report_run(const char *kind, uint64_t seed, uint64_t number,
-                       uint32_t budget, struct outcome plain,
-                       struct outcome proved)
+                       uint32_t budget, const struct outcomes *out)
 {
     if (!report_difference(kind, seed, number))
         return;
-    printf("  budget %" PRIu32 ", plain's answer %" PRIu32 "\n", budget,
-           plain.answer);
-    report_number("answer", plain.answer, proved.answer);
-    report_number("steps", plain.steps, proved.steps);
+    printf("  budget %" PRIu32 "\n", budget);
+    report_outcomes(out);
     report_lengths(&start);
     report_cells("cells at the start", start.plain.cells);
     report_sides(&world);
-    report_first_step(plain.steps);
+    report_counted(&world);
+    report_first_step(out->plain.steps);
 }
 
 static void count_run(struct outcome out)
@@ -323,17 +330,43 @@ static void count_run(struct outcome out)
         most_steps = out.steps;
     if (out.answer < ANSWERS)
         answers[out.answer]++;
+    bool some = out.reads > 0 || out.writes > 0;
+    external_reads += out.reads;
+    external_writes += out.writes;
+    runs_reading += out.reads > 0;
+    runs_writing += out.writes > 0;
+    runs_with_neither += !some;
+    refused_with_some += some && out.answer != PLAIN_DONE;
 }
 
-/* A run of a + b steps is one of a and then one of b. */
-static struct outcome run_proved_twice(uint16_t budget, uint16_t a)
+/* Two runs, one after the other: the last answer, and the sums. */
+static struct outcome together(struct outcome one, struct outcome two)
 {
-    struct outcome one = run_proved(&world, a);
-    if (one.answer != PLAIN_DONE)
-        return one;
-    struct outcome two = run_proved(&world, (uint16_t)(budget - a));
-    two.steps += one.steps;
-    return two;
+    return (struct outcome){ two.answer, one.steps + two.steps,
+                             one.reads + two.reads, one.writes + two.writes,
+                             one.past + two.past };
+}
+
+/*
+ * The library goes on from what it left, on its unused budget; the plain side
+ * makes one run from the start.
+ */
+static void go_on(struct outcomes *out, uint16_t budget)
+{
+    uint16_t left = (uint16_t)(budget - out->proved.steps);
+    world.plain = start.plain;
+    out->plain = run_plain(&world, budget);
+    out->proved = together(out->proved, run_proved(&world, left));
+    out->counted = together(out->counted, run_counted(&world, left));
+}
+
+/* A run of a + b steps is one of a, which is compared, and then one of b. */
+static struct outcomes run_in_two(uint16_t budget, uint16_t a)
+{
+    struct outcomes out = run_all(&world, a);
+    if (out.plain.answer == PLAIN_DONE && all_same(&world, &out))
+        go_on(&out, budget);
+    return out;
 }
 
 /* Words behind the list: none, few or many, to 1,024 at most (D02). */
@@ -350,38 +383,29 @@ static void bring_words(struct draw *d, struct world *w)
     calls_without += count == 0;
 }
 
-/*
- * The proved side goes on from what the dry port left, on its unused budget;
- * the plain side makes one run of all words from the start (D02, request 2).
- */
-static void continue_run(struct draw *d, uint16_t budget,
-                         struct outcome *plain, struct outcome *proved)
+/* After a dry port: with all words from the start (D02, request 2). */
+static void continue_run(struct draw *d, uint16_t budget, struct outcomes *out)
 {
-    uint32_t before = proved->steps;
     bring_words(d, &start);
     memcpy(world.input, start.input, sizeof world.input);
     world.input_length = start.input_length;
-    world.plain = start.plain;
-    *plain = run_plain(&world, budget);
-    *proved = run_proved(&world, (uint16_t)(budget - before));
-    proved->steps += before;
+    go_on(out, budget);
 }
 
 /* Continues the run `out` for as long as it is dry, four times at most. */
 static void continue_case(struct draw *d, uint64_t seed, uint64_t number,
-                          uint16_t budget, struct outcome out)
+                          uint16_t budget, struct outcomes out)
 {
-    struct outcome plain = out;
-    struct outcome proved = out;
+    uint32_t before = out.plain.steps;
     continued_runs++;
-    for (int i = 0; i < BRINGS && plain.answer == PLAIN_INPUT_DRY; i++) {
-        continue_run(d, budget, &plain, &proved);
-        if (outcomes_same(plain, proved) && sides_same(&world))
+    for (int i = 0; i < BRINGS && out.plain.answer == PLAIN_INPUT_DRY; i++) {
+        continue_run(d, budget, &out);
+        if (all_same(&world, &out))
             continue;
-        report_run("continued run", seed, number, budget, plain, proved);
+        report_run("continued run", seed, number, budget, &out);
         return;
     }
-    continued_steps += plain.steps - out.steps;
+    continued_steps += out.plain.steps - before;
 }
 
 static void run_case(uint64_t seed, uint64_t number)
@@ -396,15 +420,32 @@ static void run_case(uint64_t seed, uint64_t number)
     uint16_t budget = draw_budget(&d, spoilt);
     bool split = draw_percent(&d, 20);
     split_runs += split;
-    struct outcome plain = run_plain(&world, budget);
-    struct outcome proved = split
-        ? run_proved_twice(budget, (uint16_t)draw_below(&d, budget + 1u))
-        : run_proved(&world, budget);
-    count_run(plain);
-    if (!outcomes_same(plain, proved) || !sides_same(&world))
-        report_run("run", seed, number, budget, plain, proved);
-    else if (plain.answer == PLAIN_INPUT_DRY)
-        continue_case(&d, seed, number, budget, plain);
+    results_case(&world, spoilt, budget, KIND_RUN, seed, number);
+    struct outcomes out = split
+        ? run_in_two(budget, (uint16_t)draw_below(&d, budget + 1u))
+        : run_all(&world, budget);
+    count_run(out.plain);
+    if (!all_same(&world, &out))
+        report_run("run", seed, number, budget, &out);
+    else if (out.plain.answer == PLAIN_INPUT_DRY)
+        continue_case(&d, seed, number, budget, out);
+}
+
+static void print_external(void)
+{
+    printf("  external: reads %" PRIu64 ", writes %" PRIu64
+           "; runs with reads %" PRIu64 ", with writes %" PRIu64
+           ", with neither %" PRIu64 ", refused with some %" PRIu64 "\n",
+           external_reads, external_writes, runs_reading, runs_writing,
+           runs_with_neither, refused_with_some);
+    if (runs_reading == 0)
+        report_missing("a run with", "an external read");
+    if (runs_writing == 0)
+        report_missing("a run with", "an external write");
+    if (runs_with_neither == 0)
+        report_missing("a run with", "neither of them");
+    if (refused_with_some == 0)
+        report_missing("a run with", "some of them, then refused");
 }
 
 static void print_continued(void)
@@ -434,5 +475,6 @@ void compare_runs(uint64_t seed, uint64_t cases)
     for (int i = 1, from = 1; i < LENGTHS; i++, from *= 10)
         printf(", from %d: %" PRIu64, from, lengths[i]);
     printf("\n");
+    print_external();
     print_continued();
 }

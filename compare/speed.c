@@ -101,10 +101,16 @@ static struct outcome once_proved(uint16_t budget)
     return run_proved(&world, budget);
 }
 
+static struct outcome once_counted(uint16_t budget)
+{
+    crowmitten_reset(world.counted.cells, PLAIN_CELLS);
+    return run_counted(&world, budget);
+}
+
 /* As many calls of one step each. */
 static struct outcome calls(struct outcome step(struct world *w), uint16_t count)
 {
-    struct outcome out = { PLAIN_DONE, 0 };
+    struct outcome out = { .answer = PLAIN_DONE };
     while (out.answer == PLAIN_DONE && out.steps < count) {
         out.answer = step(&world).answer;
         out.steps++;
@@ -181,13 +187,13 @@ static void rates(one_run *const sides[2], uint16_t budget, int spells,
 static bool runs_agree(const struct workload *load)
 {
     set_world(load);
-    struct outcome plain = once_plain(load->budget);
-    struct outcome proved = once_proved(load->budget);
-    bool good = outcomes_same(plain, proved) && sides_same(&world)
-        && plain.answer == PLAIN_DONE && plain.steps == load->budget;
+    struct outcomes out = { once_plain(load->budget), once_proved(load->budget),
+                            once_counted(load->budget) };
+    bool good = all_same(&world, &out) && out.plain.answer == PLAIN_DONE
+        && out.plain.steps == load->budget;
     if (!good)
         printf("%s: the runs differ, or are refused (%" PRIu32 ")\n",
-               load->name, plain.answer);
+               load->name, out.plain.answer);
     return good;
 }
 

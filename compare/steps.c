@@ -4,13 +4,15 @@
  */
 #include "cases.h"
 #include "report.h"
+#include "results.h"
 #include "words.h"
 
 #include <inttypes.h>
 #include <stdio.h>
 #include <string.h>
 
-enum { ANSWERS = 12 };
+/* The built pages that read a data word, and that write one (section 4.3). */
+enum { ANSWERS = 12, READING_PAGES = 30, WRITING_PAGES = 6 };
 
 /* The three places of answer 5 in the order of a step (D01). */
 static const char *const absent_names[3] = {
@@ -23,6 +25,10 @@ static uint64_t done[BUILT_PAGES];
 static uint64_t refused[BUILT_PAGES];
 static uint64_t modes[MODES];
 static uint64_t pairs[BUILT_PAGES][MODES];
+
+/* Steps done, by page: an external read, an external write (D02, request 7). */
+static uint64_t read_outside[BUILT_PAGES];
+static uint64_t wrote_outside[BUILT_PAGES];
 
 static struct world world;
 
@@ -84,22 +90,24 @@ static int absent_place(const struct plain_machine *m)
 }
 
 static void count_step(const struct plain_machine *before, uint16_t word,
-                       uint32_t answer)
+                       struct outcome out)
 {
     bool fetched = program_on_board(before->cnf, before->pc);
     int page = fetched ? page_of(word) : -1;
     int mode = mode_of(word);
-    if (answer < ANSWERS)
-        answers[answer]++;
-    if (answer == PLAIN_PROGRAM_ABSENT)
+    if (out.answer < ANSWERS)
+        answers[out.answer]++;
+    if (out.answer == PLAIN_PROGRAM_ABSENT)
         absent[absent_place(before)]++;
     if (page < 0)
         return;
-    if (answer != PLAIN_DONE) {
+    if (out.answer != PLAIN_DONE) {
         refused[page]++;
         return;
     }
     done[page]++;
+    read_outside[page] += out.reads;
+    wrote_outside[page] += out.writes;
     if (mode >= 0) {
         modes[mode]++;
         pairs[page][mode]++;
@@ -107,37 +115,34 @@ static void count_step(const struct plain_machine *before, uint16_t word,
 }
 
 static void report_step(const struct side *before, uint16_t word,
-                        uint16_t second)
+                        uint16_t second, const struct outcomes *out)
 {
     printf("  word %04X (%s), second word %04X\n", word, plain_name(word),
            second);
     report_lengths(&world);
     report_cells("cells before", before->cells);
+    report_outcomes(out);
     report_sides(&world);
+    report_counted(&world);
 }
 
-/* Steps the world on both sides. Gives the plain side's answer. */
+/* Steps the world on every side, level so far. Gives the plain answer. */
 static uint32_t compare_step(const char *kind, uint64_t seed, uint64_t number)
 {
     static struct side before;
-    memcpy(world.proved.cells, world.plain.cells, sizeof world.proved.cells);
     memcpy(before.cells, world.plain.cells, sizeof before.cells);
     uint32_t pc = before.machine.pc & 0xFFFF;
     uint16_t word = (uint16_t)program_word(&world, pc);
     uint16_t second = (uint16_t)program_word(&world, (pc + 1) & 0xFFFF);
 
-    struct outcome plain = step_plain(&world);
-    struct outcome proved = step_proved(&world);
-    count_step(&before.machine, word, plain.answer);
-    if (outcomes_same(plain, proved) && sides_same(&world))
-        return plain.answer;
-    if (report_difference(kind, seed, number)) {
-        report_step(&before, word, second);
-        printf("  plain's answer %" PRIu32 "\n", plain.answer);
-        report_number("answer", plain.answer, proved.answer);
-    }
+    struct outcomes out = step_all(&world);
+    count_step(&before.machine, word, out.plain);
+    if (all_same(&world, &out))
+        return out.plain.answer;
+    if (report_difference(kind, seed, number))
+        report_step(&before, word, second, &out);
     sides_level(&world);
-    return plain.answer;
+    return out.plain.answer;
 }
 
 static void step_case(uint64_t seed, uint64_t number)
@@ -146,8 +151,11 @@ static void step_case(uint64_t seed, uint64_t number)
     draw_cells(&d, &world.plain.machine);
     draw_slices(&d, &world);
     draw_world(&d, &world, draw_offset(&d, &world, draw_instruction(&d)));
-    if (draw_percent(&d, 5))
+    bool spoilt = draw_percent(&d, 5);
+    if (spoilt)
         spoil(&d, &world);
+    cells_level(&world);
+    results_case(&world, spoilt, 1, KIND_STEP, seed, number);
     compare_step("step", seed, number);
 }
 
@@ -161,6 +169,7 @@ static uint32_t word_case(uint64_t seed, uint32_t word)
     m->pc = draw_below(&d, PLAIN_ROM_WORDS - 1);
     m->rptc = 0;
     draw_world(&d, &world, (uint16_t)word);
+    cells_level(&world);
     return compare_step("word", seed, word);
 }
 
@@ -196,6 +205,34 @@ static void print_pages(void)
             met += pairs[i][j] != 0;
         }
     printf("\n  pages with a mode, done: %d of %d\n", met, all);
+}
+
+/* How many pages have such steps, and on chip some that have none. */
+static int pages_with(const uint64_t outside[BUILT_PAGES])
+{
+    int pages = 0;
+    for (int i = 0; i < BUILT_PAGES; i++)
+        pages += outside[i] != 0 && outside[i] < done[i];
+    return pages;
+}
+
+static void print_external(void)
+{
+    uint64_t reads = 0, writes = 0, neither = 0;
+    for (int i = 0; i < BUILT_PAGES; i++) {
+        reads += read_outside[i];
+        writes += wrote_outside[i];
+        neither += done[i] - read_outside[i] - wrote_outside[i];
+    }
+    int reading = pages_with(read_outside);
+    int writing = pages_with(wrote_outside);
+    printf("  external, done: a read %" PRIu64 " (%d pages), a write %" PRIu64
+           " (%d pages), neither %" PRIu64 "\n", reads, reading, writes,
+           writing, neither);
+    if (reading != READING_PAGES)
+        report_missing("both on chip and outside:", "the 30 pages that read");
+    if (writing != WRITING_PAGES)
+        report_missing("both on chip and outside:", "the 6 pages that write");
 }
 
 static void find_missing(void)
@@ -242,6 +279,8 @@ static void forget_counts(void)
     memset(refused, 0, sizeof refused);
     memset(modes, 0, sizeof modes);
     memset(pairs, 0, sizeof pairs);
+    memset(read_outside, 0, sizeof read_outside);
+    memset(wrote_outside, 0, sizeof wrote_outside);
 }
 
 void compare_steps(uint64_t seed, uint64_t cases)
@@ -252,5 +291,6 @@ void compare_steps(uint64_t seed, uint64_t cases)
     printf("single steps: %" PRIu64 "\n", cases);
     print_answers();
     print_pages();
+    print_external();
     find_missing();
 }

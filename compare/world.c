@@ -7,6 +7,10 @@
 /* Slices longer than a world's own, one for each place in a call. */
 static uint16_t wide[4][WIDE_ROOM];
 
+/* What the results hold before a call that must set them, or leave them. */
+static const uint32_t not_set = 0xDEAD;
+static uint32_t wide_results[WIDE_RESULTS];
+
 const uint16_t *lent_rom(const struct world *w)
 {
     return w->rom_length > MEMORY_ROOM ? wide[0] : w->rom;
@@ -33,6 +37,9 @@ bool wide_untouched(void)
         for (size_t j = 0; j < WIDE_ROOM; j++)
             if (wide[i][j] != 0)
                 return false;
+    for (size_t i = RESULT_ROOM; i < WIDE_RESULTS; i++)
+        if (wide_results[i] != 0)
+            return false;
     return true;
 }
 
@@ -41,12 +48,15 @@ struct outcome step_plain(struct world *w)
     struct side *s = &w->plain;
     struct plain_external external;
     if (w->cells_length != PLAIN_CELLS)
-        return (struct outcome){ PLAIN_SLICE_WRONG, 0 };
+        return (struct outcome){ .answer = PLAIN_SLICE_WRONG };
     int answer = plain_step(&s->machine, lent_rom(w), w->rom_length,
                             lent_data(w, s), w->data_length,
                             lent_input(w), w->input_length,
                             lent_output(w, s), w->output_length, &external);
-    return (struct outcome){ (uint32_t)answer, 0 };
+    return (struct outcome){ .answer = (uint32_t)answer,
+                             .steps = answer == PLAIN_DONE,
+                             .reads = external.reads,
+                             .writes = external.writes };
 }
 
 struct outcome step_proved(struct world *w)
@@ -57,7 +67,7 @@ struct outcome step_proved(struct world *w)
                                       lent_data(w, s), w->data_length,
                                       lent_input(w), w->input_length,
                                       lent_output(w, s), w->output_length);
-    return (struct outcome){ answer, 0 };
+    return (struct outcome){ .answer = answer, .steps = answer == PLAIN_DONE };
 }
 
 struct outcome run_plain(struct world *w, uint16_t budget)
@@ -65,20 +75,22 @@ struct outcome run_plain(struct world *w, uint16_t budget)
     struct side *s = &w->plain;
     struct plain_external external;
     if (w->cells_length != PLAIN_CELLS)
-        return (struct outcome){ PLAIN_SLICE_WRONG, 0 };
+        return (struct outcome){ .answer = PLAIN_SLICE_WRONG };
     uint32_t steps = 0;
     int answer = plain_run(&s->machine, lent_rom(w), w->rom_length,
                            lent_data(w, s), w->data_length,
                            lent_input(w), w->input_length,
                            lent_output(w, s), w->output_length,
                            budget, &steps, &external);
-    return (struct outcome){ (uint32_t)answer, steps };
+    return (struct outcome){ .answer = (uint32_t)answer, .steps = steps,
+                             .reads = external.reads,
+                             .writes = external.writes };
 }
 
 struct outcome run_proved(struct world *w, uint16_t budget)
 {
     struct side *s = &w->proved;
-    struct outcome out = { 0, 0xDEAD };
+    struct outcome out = { .steps = not_set };
     out.answer = crowmitten_run(s->cells, w->cells_length,
                                 lent_rom(w), w->rom_length,
                                 lent_data(w, s), w->data_length,
@@ -88,29 +100,110 @@ struct outcome run_proved(struct world *w, uint16_t budget)
     return out;
 }
 
+static uint32_t run_with(struct world *w, uint16_t budget, uint32_t *results,
+                         size_t results_length)
+{
+    struct side *s = &w->counted;
+    for (size_t i = 0; i < RESULT_ROOM; i++)
+        results[i] = not_set;
+    return crowmitten_run_with(s->cells, w->cells_length,
+                               lent_rom(w), w->rom_length,
+                               lent_data(w, s), w->data_length,
+                               lent_input(w), w->input_length,
+                               lent_output(w, s), w->output_length,
+                               budget, results, results_length);
+}
+
+/* How many of the results from this place on a call has changed. */
+static uint32_t changed_from(const uint32_t *results, size_t place)
+{
+    uint32_t count = 0;
+    for (; place < RESULT_ROOM; place++)
+        count += results[place] != not_set;
+    return count;
+}
+
+struct outcome run_counted(struct world *w, uint16_t budget)
+{
+    uint32_t results[RESULT_ROOM];
+    uint32_t answer = run_with(w, budget, results, CROWMITTEN_RESULTS);
+    return (struct outcome){ .answer = answer,
+                             .steps = results[CROWMITTEN_STEPS],
+                             .reads = results[CROWMITTEN_READS],
+                             .writes = results[CROWMITTEN_WRITES],
+                             .past = changed_from(results,
+                                                  CROWMITTEN_RESULTS) };
+}
+
+struct outcomes step_all(struct world *w)
+{
+    return (struct outcomes){ step_plain(w), step_proved(w),
+                              run_counted(w, 1) };
+}
+
+struct outcomes run_all(struct world *w, uint16_t budget)
+{
+    return (struct outcomes){ run_plain(w, budget), run_proved(w, budget),
+                              run_counted(w, budget) };
+}
+
 bool is_step_answer(uint32_t answer)
 {
     return answer <= PLAIN_INPUT_DRY && answer != 8;
 }
 
-bool outcomes_same(struct outcome plain, struct outcome proved)
+/* A step reads at most one data word and writes at most one (X5). */
+static bool is_outcome(const struct outcome *out)
 {
-    return is_step_answer(plain.answer) && plain.answer == proved.answer
-        && plain.steps == proved.steps;
+    return is_step_answer(out->answer) && out->reads <= out->steps
+        && out->writes <= out->steps;
 }
 
-bool sides_same(const struct world *w)
+bool outcomes_same(const struct outcomes *out)
 {
-    const struct side *a = &w->plain;
-    const struct side *b = &w->proved;
+    const struct outcome *a = &out->plain;
+    const struct outcome *b = &out->proved;
+    const struct outcome *c = &out->counted;
+    return is_outcome(a) && a->answer == b->answer && a->steps == b->steps
+        && a->answer == c->answer && a->steps == c->steps
+        && a->reads == c->reads && a->writes == c->writes && c->past == 0;
+}
+
+static bool same(const struct side *a, const struct side *b)
+{
     return memcmp(a->cells, b->cells, sizeof a->cells) == 0
         && memcmp(a->data, b->data, sizeof a->data) == 0
         && memcmp(a->output, b->output, sizeof a->output) == 0;
 }
 
+bool sides_same(const struct world *w)
+{
+    return same(&w->plain, &w->proved);
+}
+
+bool all_same(const struct world *w, const struct outcomes *out)
+{
+    return outcomes_same(out) && same(&w->plain, &w->proved)
+        && same(&w->plain, &w->counted);
+}
+
+bool results_refused(struct world *w, uint16_t budget, size_t length)
+{
+    uint32_t answer = run_with(w, budget, wide_results, length);
+    return answer == PLAIN_SLICE_WRONG && changed_from(wide_results, 0) == 0
+        && same(&w->plain, &w->counted);
+}
+
 void sides_level(struct world *w)
 {
     memcpy(&w->proved, &w->plain, sizeof w->proved);
+    memcpy(&w->counted, &w->plain, sizeof w->counted);
+}
+
+void cells_level(struct world *w)
+{
+    memcpy(w->proved.cells, w->plain.cells, sizeof w->proved.cells);
+    memcpy(w->counted.cells, w->plain.cells, sizeof w->counted.cells);
 }
 
 void put_data(struct world *w, uint32_t address, uint16_t word)
@@ -119,6 +212,7 @@ void put_data(struct world *w, uint32_t address, uint16_t word)
         return;
     w->plain.data[address] = word;
     w->proved.data[address] = word;
+    w->counted.data[address] = word;
 }
 
 void put_program(struct world *w, uint32_t address, uint16_t word)
