@@ -34,7 +34,10 @@ void compare_views(uint64_t seed, uint64_t cases);
 /* Steps per second of both emulators. Gives the program's exit. */
 int measure_speed(void);
 
-/* One run of a workload, 0 to 2, on the plain (0) or proved (1) side. */
+/*
+ * One run of a workload, 0 to 2, on the plain (0) or proved (1) side, its steps
+ * by calls of step (2 and 3), or a run by crowmitten_run_with (4).
+ */
 int run_once(uint64_t load, uint64_t side, uint64_t budget);
 
 #endif

@@ -2,7 +2,7 @@
  * compare CASES SEED: feeds both emulators the same worlds.
  * compare bench: measures their speed.
  * compare once LOAD SIDE BUDGET: one run of the benchmark, or (sides 2 and 3)
- * its steps by calls, and no output.
+ * its steps by calls, or (side 4) a run by crowmitten_run_with; no output.
  */
 #include "cases.h"
 #include "report.h"

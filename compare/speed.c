@@ -1,7 +1,8 @@
 /*
- * Steps per second on both emulators, of `run` and of calls of `step`: the same
- * programs from reset, turn about in short spells of processor time, the
- * fastest spell counted.
+ * Steps per second on both emulators, of `run` and of calls of `step`, and of
+ * the library's `run` beside `run_with`, which also tells the external reads
+ * and writes: the same programs from reset, turn about in short spells of
+ * processor time, the fastest spell counted.
  */
 #include "cases.h"
 #include "world.h"
@@ -130,9 +131,10 @@ static struct outcome calls_proved(uint16_t count)
     return calls(step_proved, count);
 }
 
-/* What is measured of both sides: a run, and calls of a step. */
+/* What is measured: a run, calls of a step; and what counting costs. */
 static one_run *const by_run[2] = { once_plain, once_proved };
 static one_run *const by_calls[2] = { calls_plain, calls_proved };
+static one_run *const by_counting[2] = { once_proved, once_counted };
 
 /* Any words in the memories; 0400h has AR1's start, 0401h the loop's count. */
 static void set_world(const struct workload *load)
@@ -170,7 +172,7 @@ static double spell(one_run *once, uint16_t budget)
     return (double)steps / passed;
 }
 
-/* The fastest spell of each side, [0] plain and [1] proved. */
+/* The fastest spell of each of the two. */
 static void rates(one_run *const sides[2], uint16_t budget, int spells,
                   double fastest[2])
 {
@@ -222,12 +224,13 @@ static void print_growth(const struct workload *load)
 
 int run_once(uint64_t load, uint64_t side, uint64_t budget)
 {
-    if (load >= sizeof workloads / sizeof workloads[0] || side > 3
-        || budget > 65535)
+    static one_run *const sides[] = { once_plain, once_proved, calls_plain,
+                                      calls_proved, once_counted };
+    if (load >= sizeof workloads / sizeof workloads[0]
+        || side >= sizeof sides / sizeof sides[0] || budget > 65535)
         return 2;
     set_world(&workloads[load]);
-    one_run *once = side < 2 ? by_run[side] : by_calls[side - 2];
-    struct outcome out = once((uint16_t)budget);
+    struct outcome out = sides[side]((uint16_t)budget);
     return out.answer == PLAIN_DONE && out.steps == budget ? 0 : 1;
 }
 
@@ -235,6 +238,14 @@ static void print_rates(const char *name, const double rate[2])
 {
     printf("  %-32s plain %10.0f   proved %10.0f   ratio %.2f\n", name,
            rate[0], rate[1], rate[1] / rate[0]);
+    fflush(stdout);
+}
+
+/* The library alone: a run, and the same with its external accesses. */
+static void print_counting(const double rate[2])
+{
+    printf("  %-32s run   %10.0f   run_with %8.0f   ratio %.2f\n",
+           "    of the proved side", rate[0], rate[1], rate[1] / rate[0]);
     fflush(stdout);
 }
 
@@ -247,6 +258,8 @@ int measure_speed(void)
         good = runs_agree(&workloads[i]) && good;
         rates(by_run, workloads[i].budget, SPELLS, rate);
         print_rates(workloads[i].name, rate);
+        rates(by_counting, workloads[i].budget, SPELLS, rate);
+        print_counting(rate);
     }
     double rate[2];
     good = runs_agree(&workloads[1]) && good;
