@@ -11,7 +11,7 @@ NAMED += [('ARP', 1), ('ARB', 1), ('DP', 3), ('PM', 1), ('OV', 1), ('OVM', 1), (
 NAMED += [('S%d' % at, 4) for at in range(8)] + [('ICUR', 3), ('OCUR', 3)]
 # The places that a case may name: the number that the program knows each by, and those digits.
 CELLS = {name: (0x4000 + at, digits) for at, (name, digits) in enumerate(NAMED)}
-CELLS.update({'ANS': (0x5000, 2), 'STEPS': (0x6000, 4)})
+CELLS.update({'ANS': (0x5000, 2), 'STEPS': (0x6000, 4), 'XR': (0x7000, 4), 'XW': (0x8000, 4)})
 BANKS = {'M': (0x0000, 0xFFF), 'R': (0x1000, 0xFFF), 'I': (0x2000, 3), 'O': (0x3000, 3)}
 
 
@@ -49,13 +49,14 @@ def case(line):
     before, after = [pairs(part) for part in cells.split('->')]
     words = program.split()
     steps = int(words.pop()[1:], 16) if words and words[-1][0] == 'x' else None
+    counted = any(place[0] in ('XR', 'XW') for place, _ in after)
     if steps is None and any(place[0] == 'STEPS' for place, _ in after):
         raise SystemExit('only a run counts its steps: ' + line)
     start = dict((place[0], value) for place, value in before).get('PC', 0)
     asked = [act('N', label=name)]
     asked += [act('S', 0x1000 + start + at, int(word, 16)) for at, word in enumerate(words)]
     asked += [act('S', place[1], value) for place, value in before]
-    asked += [act('T') if steps is None else act('R', value=steps)]
+    asked += [act('W', value=1 if steps is None else steps) if counted else act('T') if steps is None else act('R', value=steps)]
     if not any(place[0] == 'ANS' for place, _ in after):
         after.insert(0, (places('ANS')[0], 0))
     printed = '%-15s' % name

@@ -6,3 +6,6 @@ pub mod window;
 
 // How many numbers the cells of a machine are.
 pub const CELLS: usize = c_cells::CELLS;
+
+// How many numbers a run hands out.
+pub const RESULTS: usize = c_results::RESULTS;

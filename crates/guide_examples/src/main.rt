@@ -2,11 +2,13 @@
 // the lines read here, one act a line of 32 bytes, and into the file that the output is compared with.
 //
 // A line is `KIND PLACE VALUE LABEL`: N begins a case and prints its label, S puts the value into the place, T does one step, R runs with
-// the value as its budget, P prints its label and the place in hexadecimal, E ends the case.
+// the value as its budget, W does so by the call with results, P prints its label and the place in hexadecimal, E ends the case.
 ghost use Prim.Native.Nat.{_<_};
 use desktop::CELLS;
+use desktop::RESULTS;
 use desktop::running::crowmitten_reset;
 use desktop::running::crowmitten_run;
+use desktop::running::crowmitten_run_with;
 use desktop::running::crowmitten_step;
 
 const STDIN: i32 = 0;
@@ -20,10 +22,12 @@ struct Line {
     value: u32,
 }
 
-// How a step or a run ended; only a run counts its steps.
+// How a step or a run ended; only a run counts its steps, and only one with results its external reads and writes.
 struct Run {
     answer: u32,
     steps: u32,
+    reads: u32,
+    writes: u32,
 }
 
 fn digit(b: u8) -> u32 {
@@ -100,7 +104,7 @@ fn store(
     }
 }
 
-// What stands in a place; behind the cells, the last answer and the last run's steps.
+// What stands in a place; behind the cells, the last answer and what the last run counted.
 fn place_of(
     place: u32,
     last: Run,
@@ -116,7 +120,9 @@ fn place_of(
         3 => word_at(output, at),
         4 => cell_at(cells, at),
         5 => last.answer,
-        _ => last.steps,
+        6 => last.steps,
+        7 => last.reads,
+        _ => last.writes,
     }
 }
 
@@ -128,7 +134,12 @@ fn step_cells(
     cells: &mut [u32; CELLS],
 ) -> Run {
     let answer = crowmitten_step(cells, rom, data, input, output);
-    Run { answer, steps: 0 }
+    Run {
+        answer,
+        steps: 0,
+        reads: 0,
+        writes: 0,
+    }
 }
 
 fn run_cells(
@@ -141,7 +152,31 @@ fn run_cells(
 ) -> Run {
     let mut steps: u32 = 0;
     let answer = crowmitten_run(cells, rom, data, input, output, budget, &mut steps);
-    Run { answer, steps }
+    Run {
+        answer,
+        steps,
+        reads: 0,
+        writes: 0,
+    }
+}
+
+// The results hold other numbers before, so that those of a refusal are seen to be written.
+fn run_with_results(
+    budget: u16,
+    data: &mut [u16; 4096],
+    rom: &[u16; 4096],
+    input: &[u16; 4],
+    output: &mut [u16; 4],
+    cells: &mut [u32; CELLS],
+) -> Run {
+    let mut results = [7u32; RESULTS];
+    let answer = crowmitten_run_with(cells, rom, data, input, output, budget, &mut results);
+    Run {
+        answer,
+        steps: results[0],
+        reads: results[1],
+        writes: results[2],
+    }
 }
 
 // What a line asks for; how the last step or run ended.
@@ -159,6 +194,9 @@ fn act(
     }
     if a.kind == b'R' {
         return run_cells(word_of(a.value), data, rom, input, output, cells);
+    }
+    if a.kind == b'W' {
+        return run_with_results(word_of(a.value), data, rom, input, output, cells);
     }
     if a.kind == b'S' {
         store(a, data, rom, input, output, cells);
@@ -222,6 +260,8 @@ fn case() {
     let mut last = Run {
         answer: 0,
         steps: 0,
+        reads: 0,
+        writes: 0,
     };
     let mut left: u32 = 1000;
     while 0 < left {
@@ -239,9 +279,9 @@ fn case() {
     }
 }
 
-// At most 1000 cases.
+// At most 600 cases: each one that is not there takes its time too.
 fn main() {
-    let mut left: u32 = 1000;
+    let mut left: u32 = 600;
     while 0 < left {
         left -= 1;
         case();

@@ -1,11 +1,11 @@
--- Not routine: the loop ends because left falls by one each time; that left is at most 1,000 is all that it keeps.
+-- Not routine: the loop ends because left falls by one each time; that left is at most 600 is all that it keeps.
 use borrow.Author.Needs.{needs}
 use Prim.Native.Nat.{_≤_}
 use Rattle.guide_examples.proofs.main.Statement.{statement}
 use Rattle.guide_examples.proofs.main.Tie as tie
 
 abbrev Inv-loop : tie.InvT-loop
-Inv-loop left₀ left = left ≤ 1000
+Inv-loop left₀ left = left ≤ 600
 
 abbrev μ-loop : tie.MeasureT-loop
 μ-loop left₀ left = left
