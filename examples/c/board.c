@@ -30,6 +30,14 @@ uint32_t run_board(struct board *b, uint16_t budget, uint32_t *steps)
                           CROWMITTEN_PORT_WORDS_MAX, budget, steps);
 }
 
+uint32_t run_board_with(struct board *b, uint16_t budget, uint32_t *results)
+{
+    return crowmitten_run_with(b->cells, CROWMITTEN_CELLS, b->rom, CROWMITTEN_MEMORY_WORDS,
+                               b->data, CROWMITTEN_MEMORY_WORDS, b->input, b->input_count,
+                               b->output, CROWMITTEN_PORT_WORDS_MAX, budget, results,
+                               CROWMITTEN_RESULTS);
+}
+
 void print_line(const struct board *b, uint32_t answer, uint32_t steps)
 {
     size_t count, i;

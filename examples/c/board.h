@@ -17,6 +17,9 @@ uint32_t set_up_board(struct board *b);
 
 uint32_t run_board(struct board *b, uint16_t budget, uint32_t *steps);
 
+/* The same, with all that a run hands out: CROWMITTEN_RESULTS numbers. */
+uint32_t run_board_with(struct board *b, uint16_t budget, uint32_t *results);
+
 /* The line of a run, as `replay` prints it. */
 void print_line(const struct board *b, uint32_t answer, uint32_t steps);
 
