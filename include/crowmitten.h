@@ -7,8 +7,9 @@
  * slices or numbers that are lent to one call overlap unless both are const.
  *
  * Every function returns an answer of the table below. A refusal changes no
- * cell, no memory and no port, and the numbers that it hands out are 0. Only a
- * run keeps, and counts, the steps that were done before the refused one.
+ * cell, no memory and no port, and the numbers that it hands out are 0; only
+ * results of a wrong length are left as they are. Only a run keeps, and counts,
+ * the steps that were done before the refused one.
  */
 #ifndef CROWMITTEN_H
 #define CROWMITTEN_H
@@ -76,7 +77,7 @@ enum {
 /*
  * A call that takes cells returns 2 if cells_length is not 34, then, except for
  * reset, 1 if a number is outside its cell's range, then what stands beside the
- * function.
+ * function. crowmitten_run_with looks at the length of its results before.
  */
 
 /* The cells after reset, whatever they held: 0, or 2. */
@@ -112,11 +113,14 @@ enum crowmitten_result {
 };
 
 /*
- * A run, with all that it hands out, at its place in results: 2 if
- * results_length is not CROWMITTEN_RESULTS, before anything else, and results
- * is left as it is; else what crowmitten_run returns. A step reads at most one
- * data word and writes at most one; a refused step counts nothing. With budget
- * 1 this is crowmitten_step, with the step's own counts.
+ * A run, with all that it hands out, each number at its place in results. 2 if
+ * results_length is not CROWMITTEN_RESULTS, before anything else: results is
+ * then left as it is. Otherwise the answer of crowmitten_run, and results is
+ * always written: all 0 if the cells or the slices are refused, else the
+ * numbers of the steps done. Fetches, table words of MAC and MACD, and ports
+ * are not counted; a data move writes nothing outside. After 11, go on as after
+ * crowmitten_run: the numbers of both calls add. With budget 1 this is
+ * crowmitten_step, with the step's own counts.
  */
 uint32_t crowmitten_run_with(uint32_t *cells, size_t cells_length,
                              const uint16_t *rom, size_t rom_length,

@@ -69,5 +69,7 @@ def case(line):
 if __name__ == '__main__':
     lines = [line for line in open('cases.txt') if line.strip() and line[0] != '#']
     cases = [case(line) for line in lines]
+    if len(cases) > 600:
+        raise SystemExit('the program runs 600 cases at most')
     open('stdin', 'w').write(''.join(asked for asked, _ in cases))
     open('stdout', 'w').write(''.join(printed for _, printed in cases))

@@ -18,7 +18,7 @@ struct counts {
 static struct board board;
 static struct counts pages[PAGES];
 
-/* The program word at PC, which the fetch window begins with. */
+/* The program word at PC, which the fetch window begins with; 0 where there is none, and the step will be refused. */
 static uint16_t word_at_pc(const struct board *b)
 {
     uint32_t memory;
@@ -32,9 +32,10 @@ static uint16_t word_at_pc(const struct board *b)
 }
 
 /*
- * The data address of the instruction at PC, if it has one: every instruction
- * that is built has at most one. Bit 7 of the word tells indirect addressing
- * from direct (the guide, section 4.1).
+ * The data address of the instruction at PC, if it has one. Every instruction
+ * that is built has at most one that can be outside: the second one of a data
+ * move is on chip. Bit 7 of the word tells indirect addressing from direct
+ * (the guide, section 4.1).
  */
 static uint32_t data_address(const struct board *b)
 {

@@ -1,10 +1,10 @@
 -- Where the addresses of each region lie; B0 is never in both spaces; a data move stays on chip.
-use mathlib.Core.Path.{_≡_, refl, subst}
-use mathlib.Core.Bool.{Bool, true, false, cond, false≢true, _&&_}
+use mathlib.Core.Path.{_≡_, refl, sym, subst}
+use mathlib.Core.Bool.{Bool, true, false, cond, not, false≢true, _&&_}
 use Prim.Native.Nat.{ℕ, _+_, _≤_, _<_}
 use native.Mathlib.Omega.{arith}
-use lib.Dec.{eqb}
-use borrow.Author.Tests.{leb-true, ltb-true, eqb-true}
+use lib.Dec.{ltb, eqb}
+use borrow.Author.Tests.{not-true, not-false, leb-true, ltb-true, ltb-false, eqb-true}
 use Rattle.basic_laws.specs.Tests.{both-hold}
 use Rattle.board.specs.declared.Region.{Region}
 use Rattle.board.specs.declared.Region.the-variants.{Absent, B2, B0, B1, External}
@@ -79,12 +79,31 @@ pub on-chip-below : (cnf a : ℕ) → onChip cnf a ≡ true → a < 1024
 unfolding onChip
 on-chip-below cnf a h = lies-on-chip cnf a (dataRegion cnf a) (region-lies cnf a) h
 
--- a data move that is made reads and writes addresses on chip
+-- a data move that is made goes from a region on chip to an address on chip
 pub moves : (region : Region) (cnf a : ℕ) → moveAllowed region cnf a ≡ true → Moves region cnf a
 unfolding moveAllowed
 moves region cnf a h =
     let p = both-hold (onChipRegion region) _ h in
     record { from = p .0; to = p .1; below = on-chip-below cnf (a + 1) (p .1) }
+
+-- whether a move is made, where the address is asked for too: there is none from 0400h on
+past-chip : (cnf a : ℕ) → 1024 ≤ a → onChip cnf (a + 1) ≡ false
+past-chip cnf a l = by (onChip cnf (a + 1)) refl
+  where
+    by : (t : Bool) → onChip cnf (a + 1) ≡ t → onChip cnf (a + 1) ≡ false
+    by true e = absurd (omega (arith, on-chip-below cnf (a + 1) e))
+    by false e = e
+
+module _ (region : Region) (cnf a : ℕ) where
+  pub no-move : (chip : Bool) → chip ≡ onChipRegion region → not (chip && ltb a 1024) ≡ true → false ≡ moveAllowed region cnf a
+  unfolding moveAllowed
+  no-move true e h = rw (← e) (sym (past-chip cnf a (ltb-false _ _ (not-true _ h))))
+  no-move false e h = rw (← e) refl
+
+  pub next-asked : (chip : Bool) → chip ≡ onChipRegion region → not (chip && ltb a 1024) ≡ false → (a < 1024) × (onChip cnf (a + 1) ≡ moveAllowed region cnf a)
+  unfolding moveAllowed
+  next-asked true e h = (ltb-true _ _ (not-false _ h), rw (← e) refl)
+  next-asked false e h = absurd (false≢true (sym h))
 
 pub rom-below : (a : ℕ) → inRom a ≡ true → a < 4096
 unfolding inRom
@@ -105,7 +124,7 @@ one-space cnf a at h g =
     omega arith
 
 -- the edges: the last word of B0 moves into B1 and that of B1 nowhere; the bench's direct addresses 80h and 60h; FEFFh is absent
-pub edges : (moveAllowed (dataRegion 0 0x2FF) 0 0x2FF ≡ true) × (moveAllowed (dataRegion 1 0x2FF) 1 0x2FF ≡ false) × (moveAllowed B1 0 0x3FF ≡ false) × (moveAllowed B2 0 0x7F ≡ false)
+pub edges : (moveAllowed (dataRegion 0 0x2FF) 0 0x2FF ≡ true) × (moveAllowed (dataRegion 1 0x2FF) 1 0x2FF ≡ false) × (moveAllowed (dataRegion 0 0x3FF) 0 0x3FF ≡ false) × (moveAllowed (dataRegion 0 0x7F) 0 0x7F ≡ false)
     × (dataRegion 0 0x80 ≡ Absent) × (dataRegion 0 0x60 ≡ B2) × (dataRegion 0 0x3FF ≡ B1) × (dataRegion 0 0x400 ≡ External) × (dataRegion 0 0xFFF ≡ External) × (dataRegion 0 0x1000 ≡ Absent) × (programPresent 1 0xFEFF ≡ false) × (programPresent 1 0xFF00 ≡ true) × (programPresent 0 0x1000 ≡ false)
 unfolding moveAllowed onChip dataRegion programPresent inRom inProgramB0
 edges = (refl, refl, refl, refl, refl, refl, refl, refl, refl, refl, refl, refl, refl)

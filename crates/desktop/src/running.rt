@@ -96,10 +96,10 @@ pub extern "C" fn crowmitten_run_with(
         );
         return cells_number(cells);
     }
-    let ran = run(machine_of(cells), rom, data, input, output, budget);
-    let after_run = ran.m;
-    let last = ran.answer;
-    let outside = ran.outside;
-    put_results(results, ran.steps, outside);
+    let done = run(machine_of(cells), rom, data, input, output, budget);
+    let after_run = done.m;
+    let last = done.answer;
+    let outside = done.outside;
+    put_results(results, done.steps, outside);
     put_step(cells, after_run, last)
 }

@@ -113,7 +113,7 @@ module _ (g : Given) where
 -- ---- the totals of a run
 
 -- what the loop of a run keeps beside its steps: the counts of k steps in one number, each at most k
-pub record Counting (g : Given) (budget : ℕ) (w₀ w : World) (k totals : ℕ) : Type 0 where
+pub record Totalling (g : Given) (budget : ℕ) (w₀ w : World) (k totals : ℕ) : Type 0 where
   pub so-far : Outside
   pub in-one : totals ≡ inOne so-far
   pub reads-within : so-far .reads ≤ k
@@ -128,15 +128,15 @@ apart-again o l =
     rw (reads, writes)
 
 module _ (g : Given) (budget : ℕ) (w₀ : World) where
-  pub counting-begins : Counting g budget w₀ w₀ 0 0
+  pub totalling-begins : Totalling g budget w₀ w₀ 0 0
   unfolding inOne
-  counting-begins = record { so-far = noneOutside; in-one = refl; reads-within = omega arith; writes-within = omega arith; tallying = tallying-begins addOutside g budget w₀ noneOutside }
+  totalling-begins = record { so-far = noneOutside; in-one = refl; reads-within = omega arith; writes-within = omega arith; tallying = tallying-begins addOutside g budget w₀ noneOutside }
 
-  module _ (w : World) (k totals : ℕ) (c : Counting g budget w₀ w k totals) where
-    pub counting-goes : (out : Outcome) → out ≡ stepOf g w → k < budget → isDone (out .answer) ≡ true → (x : Outside) → x ≡ planIn g w .outside
-        → Counting g budget w₀ (out .world) (k + 1) (totals + inOne x)
+  module _ (w : World) (k totals : ℕ) (c : Totalling g budget w₀ w k totals) where
+    pub totalling-goes : (out : Outcome) → out ≡ stepOf g w → k < budget → isDone (out .answer) ≡ true → (x : Outside) → x ≡ planIn g w .outside
+        → Totalling g budget w₀ (out .world) (k + 1) (totals + inOne x)
     unfolding inOne addOutside
-    counting-goes out e l h x f =
+    totalling-goes out e l h x f =
         let few = few-outside g w in
         rw f
         (record {
@@ -154,13 +154,13 @@ module _ (g : Given) (budget : ℕ) (w₀ : World) where
     totals-are : k < 65536 → c .so-far ≡ outsideOf g budget w₀ → apartFrom totals ≡ outsideOf g budget w₀
     totals-are l e = ap apartFrom (c .in-one) ∙ (apart-again (c .so-far) (omega (arith, c .reads-within)) ∙ e)
 
-    pub counting-stops : budget < 65536 → (out : Outcome) → out ≡ stepOf g w → k < budget → isDone (out .answer) ≡ false → apartFrom totals ≡ outsideOf g budget w₀
+    pub totalling-stops : budget < 65536 → (out : Outcome) → out ≡ stepOf g w → k < budget → isDone (out .answer) ≡ false → apartFrom totals ≡ outsideOf g budget w₀
     unfolding outsideOf
-    counting-stops b out e l h = totals-are (omega arith) (tallying-stops addOutside g budget w₀ noneOutside w k (c .so-far) (c .tallying) out e l h)
+    totalling-stops b out e l h = totals-are (omega arith) (tallying-stops addOutside g budget w₀ noneOutside w k (c .so-far) (c .tallying) out e l h)
 
-    pub counting-ends : k < 65536 → budget ≤ k → apartFrom totals ≡ outsideOf g budget w₀
+    pub totalling-ends : k < 65536 → budget ≤ k → apartFrom totals ≡ outsideOf g budget w₀
     unfolding outsideOf
-    counting-ends b l = totals-are b (tallying-ends addOutside g budget w₀ noneOutside w k (c .so-far) (c .tallying) l)
+    totalling-ends b l = totals-are b (tallying-ends addOutside g budget w₀ noneOutside w k (c .so-far) (c .tallying) l)
 
 -- ---- what the types of lent words tell
 

@@ -82,7 +82,7 @@ fn checked_step(
 ) -> Stepped
     requires { ⌜ (now kinds ≡ kindTable) × (checksOf (given (now rom) (now input)) (now «data») (length (now output)) m ≡ Done) ⌝ }
     ensures outcome { λ r. ⌜ stepped r (now («data» .exit)) (now (output .exit)) ≡ stepOf (given (now (rom .entry)) (now (input .entry))) (record { m = m; «data» = now («data» .entry); output = now (output .entry) }) ⌝ }
-    ensures counted { λ r. ⌜ r .outside ≡ planIn (given (now (rom .entry)) (now (input .entry))) (record { m = m; «data» = now («data» .entry); output = now (output .entry) }) .outside ⌝ }
+    ensures external { λ r. ⌜ r .outside ≡ planIn (given (now (rom .entry)) (now (input .entry))) (record { m = m; «data» = now («data» .entry); output = now (output .entry) }) .outside ⌝ }
 {
     let p = plan_fetched(kinds, rom, &data[..], input, output.len(), m);
     let n = p.m;
@@ -121,7 +121,7 @@ pub fn run(
     budget: u16,
 ) -> Ran
     ensures outcome { λ r. ⌜ ran r (now («data» .exit)) (now (output .exit)) ≡ runOf (given (now (rom .entry)) (now (input .entry))) budget (record { m = m; «data» = now («data» .entry); output = now (output .entry) }) ⌝ }
-    ensures counted { λ r. ⌜ r .outside ≡ outsideOf (given (now (rom .entry)) (now (input .entry))) budget (record { m = m; «data» = now («data» .entry); output = now (output .entry) }) ⌝ }
+    ensures external { λ r. ⌜ r .outside ≡ outsideOf (given (now (rom .entry)) (now (input .entry))) budget (record { m = m; «data» = now («data» .entry); output = now (output .entry) }) ⌝ }
 {
     let checked = check(m, rom, &data[..], input, output.len());
     if !is_done(checked) {
@@ -169,7 +169,7 @@ pub fn run(
 // A run of one step: checks 1 and 2, and the step.
 pub fn step(m: Machine, rom: &[u16], data: &mut [u16], input: &[u16], output: &mut [u16]) -> Stepped
     ensures outcome { λ r. ⌜ stepped r (now («data» .exit)) (now (output .exit)) ≡ stepOf (given (now (rom .entry)) (now (input .entry))) (record { m = m; «data» = now («data» .entry); output = now (output .entry) }) ⌝ }
-    ensures counted { λ r. ⌜ r .outside ≡ planIn (given (now (rom .entry)) (now (input .entry))) (record { m = m; «data» = now («data» .entry); output = now (output .entry) }) .outside ⌝ }
+    ensures external { λ r. ⌜ r .outside ≡ planIn (given (now (rom .entry)) (now (input .entry))) (record { m = m; «data» = now («data» .entry); output = now (output .entry) }) .outside ⌝ }
 {
     let ran = run(m, rom, data, input, output, 1);
     let after = ran.m;

@@ -1,4 +1,4 @@
-// The operand of a pass: the word and the region that are found at its address, together, and what its access counts outside the chip.
+// The operand of a pass: the word and the region that are found at its address, together, and what its access counts in external RAM.
 use board::Found;
 use board::Region;
 use pages::Access;

@@ -1,7 +1,7 @@
 -- Reads and writes of external RAM, of a step: proofs.
 use mathlib.Core.Path.{_≡_, refl, sym, _∙_, ap}
 use mathlib.Core.Bool.{Bool, true, false, cond}
-use mathlib.Core.List.{List}
+use mathlib.Core.List.{List, []}
 use Prim.Native.Nat.{ℕ, _+_}
 use native.Mathlib.Omega.{arith}
 use Rattle.machine.specs.declared.Machine.{Machine}
@@ -23,15 +23,15 @@ use Rattle.steps.specs.declared.Plan.{Plan}
 use Rattle.steps.specs.declared.Write.the-variants as Write
 use Rattle.steps.specs.OperandFound.{operandFound, foundFor, outsideBy}
 use Rattle.steps.specs.Stores.{writeOf}
-use Rattle.steps.specs.Pass.{performed, passedWrite, effectOf}
+use Rattle.steps.specs.Pass.{wordsRead, performed, passedWrite, effectOf}
 use Rattle.steps.specs.World.{World}
-use Rattle.steps.specs.Table.{decodedAt}
+use Rattle.steps.specs.Table.{decodedAt, secondWord}
 use Rattle.steps.specs.Step.{pagePlan, stepOf}
 use Rattle.steps.specs.StoreLaws.{StoreAllowed, store-fits}
 use Rattle.steps.specs.TableLaws.{step-plan}
 use Rattle.steps.specs.Tally.{planIn}
 use Rattle.steps.specs.TallyLaws.{step-has, few-outside, refused-none}
-use Rattle.laws.specs.Laws.{externalAmong, addressesRead, addressesWritten, CountsOfAStep}
+use Rattle.laws.specs.Laws.{externalAmong, addressesRead, addressesWritten, CountsOfAStep, StoresByAddress}
 
 -- one address in external RAM or not
 one-among : (cnf a : ℕ) → cond (within 0x400 0xFFF a) 1 0 + 0 ≡ accessOutside (dataRegion cnf a)
@@ -43,6 +43,22 @@ module _ (cnf address : ℕ) (d : List ℕ) where
   read-by Access.None = refl
   read-by Access.Reads = sym (one-among cnf address)
   read-by Access.Writes = refl
+
+  unread-by : (access : Access) → addressesRead access address ≡ [] → operandFound access cnf d address .word ≡ 0
+  unfolding operandFound addressesRead
+  unread-by Access.None e = refl
+  unread-by Access.Reads e = cc
+  unread-by Access.Writes e = refl
+
+  by-address : (access : Access) (store : Store) (cursor : ℕ) → StoreAllowed access store
+      → writeOf store (operandFound access cnf d address .region) cnf address cursor ≡ writeOf store (dataRegion cnf address) cnf address cursor
+  unfolding writeOf operandFound foundAt
+  by-address Access.None Left.Nothing cursor f = refl
+  by-address Access.None (Left.Word word) cursor f = absurd f
+  by-address Access.None (Left.Move word) cursor f = absurd f
+  by-address Access.None (Left.Sent word) cursor f = refl
+  by-address Access.Reads store cursor f = refl
+  by-address Access.Writes store cursor f = refl
 
   -- a data move goes from on chip to on chip
   none-moved : (allowed : Bool) (word : ℕ) → moveAllowed (dataRegion cnf address) cnf address ≡ allowed
@@ -87,7 +103,17 @@ module _ (g : Given) (w : World) where
   unfolding performed foundFor
   reads-of-page i d e = ap (λ (p : Plan). p .outside .reads) (step-plan g w i d e) ∙ read-by (w .m .cnf) (addressOf (traitsOf i .operand) (w .m)) (w .«data») (traitsOf i .access)
 
+  unread : (i : Instruction) → addressesRead (traitsOf i .access) (addressOf (traitsOf i .operand) (w .m)) ≡ []
+      → wordsRead (traitsOf i) (secondWord i g (w .«data») (w .m)) g (w .«data») (w .m) .operand ≡ 0
+  unfolding wordsRead foundFor
+  unread i e = unread-by (w .m .cnf) (addressOf (traitsOf i .operand) (w .m)) (w .«data») (traitsOf i .access) e
+
   pub counts-of-a-step : CountsOfAStep g w
   counts-of-a-step =
       let few = few-outside g w in
-      record { reads-of-page = reads-of-page; writes-stored = writes-stored; one-read = few .one-read; one-write = few .one-write; refused-none = refused-none g w }
+      record { unread = unread; reads-of-page = reads-of-page; writes-stored = writes-stored; one-read = few .one-read; one-write = few .one-write; refused-none = refused-none g w }
+
+pub stores-by-address : StoresByAddress
+unfolding passedWrite effectOf foundFor
+stores-by-address g w i =
+    by-address (w .m .cnf) (addressOf (traitsOf i .operand) (w .m)) (w .«data») (traitsOf i .access) _ (w .m .«output_cursor») (store-fits i (w .m) _ _)

@@ -16,7 +16,7 @@ use Rattle.steps.specs.World.{World, RunOutcome}
 use Rattle.steps.specs.Step.{stepOf, runOf}
 use Rattle.steps.specs.Tally.{planIn, plansOf, tallied, bothOutside, addOutside, outsideOf}
 use Rattle.steps.specs.TallyLaws.{plans-done, plans-refused, plans-none, tally-append, few-outside}
-use Rattle.laws.specs.Laws.{withFurther, plansOfSteps, CountsOfARun, TalliesAdd, CountsAdd, TallyContinued}
+use Rattle.laws.specs.Laws.{withFurther, plansOfSteps, CountsOfARun, TalliesAdd, CountsAdd, TallyContinued, CountsContinued}
 use Rattle.laws.specs.Runs.{run-none, run-refused, run-done, by-first, runs-add}
 use Rattle.laws.specs.Continued.{step-further, world-same}
 
@@ -81,17 +81,17 @@ counts-add g a b w =
 
 module _ (g : Given) where
   -- every step adds at most one of each
-  record Within (o before : Outside) (steps : ℕ) : Type 0 where
+  record AtMost (o before : Outside) (steps : ℕ) : Type 0 where
     reads : o .reads ≤ before .reads + steps
     writes : o .writes ≤ before .writes + steps
 
-  total-within : (n : ℕ) (w : World) (o : Outside) → Within (tallied addOutside (plansOf g n w) o) o (runOf g n w .steps)
+  total-most : (n : ℕ) (w : World) (o : Outside) → AtMost (tallied addOutside (plansOf g n w) o) o (runOf g n w .steps)
   unfolding tallied addOutside
-  total-within zero w o = rw (plans-none g w, run-none g w) (record { reads = omega arith; writes = omega arith })
-  total-within (suc n) w o = by-first g w
+  total-most zero w o = rw (plans-none g w, run-none g w) (record { reads = omega arith; writes = omega arith })
+  total-most (suc n) w o = by-first g w
       (λ d.
       let few = few-outside g w in
-      let rest = total-within n (stepOf g w .world) (bothOutside o (planIn g w .outside)) in
+      let rest = total-most n (stepOf g w .world) (bothOutside o (planIn g w .outside)) in
       rw (plans-done g n w d, run-done g n w d)
       (record { reads = omega (arith, few .one-read, rest .reads); writes = omega (arith, few .one-write, rest .writes) }))
       (λ r. rw (plans-refused g n w r, run-refused g n w r) (record { reads = omega arith; writes = omega arith }))
@@ -99,11 +99,11 @@ module _ (g : Given) where
   pub counts-of-a-run : (budget : ℕ) (w : World) → CountsOfARun g budget w
   unfolding outsideOf
   counts-of-a-run budget w =
-      let within = total-within budget w noneOutside in
+      let most = total-most budget w noneOutside in
       record {
         over-steps-done = over-steps-done g budget w;
-        reads-within = omega (arith, within .reads);
-        writes-within = omega (arith, within .writes);
+        reads-within = omega (arith, most .reads);
+        writes-within = omega (arith, most .writes);
       }
 
 -- ---- a continued run
@@ -127,3 +127,9 @@ module _ (g : Given) (further : List ℕ) (l : length (g .input ++ further) ≤ 
 pub tally-continued : {S : Type 0} (keep : Plan → S → S) → TallyContinued S keep
 tally-continued keep g further budget w s l =
     ap (λ (plans : List Plan). tallied keep plans s) (plans-continued g further l budget w) ∙ tally-append keep (plansOf g budget w) _ s
+
+pub counts-continued : CountsContinued
+unfolding outsideOf
+counts-continued g further budget w l =
+    tally-continued addOutside g further budget w noneOutside l
+    ∙ tally-from (plansOf (withFurther g further) (budget - runOf g budget w .steps) (runOf g budget w .world)) (tallied addOutside (plansOf g budget w) noneOutside)

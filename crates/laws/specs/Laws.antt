@@ -25,18 +25,17 @@ use Rattle.pages.specs.declared.Effect.{Effect}
 use Rattle.answers.specs.declared.Answer.{Answer}
 use Rattle.answers.specs.declared.Answer.the-variants.{Done, InputDry}
 use Rattle.answers.specs.Numbers.{numberOf, isDone}
-use Rattle.board.specs.Regions.{within, inRom, inProgramB0, programPresent}
+use Rattle.board.specs.Regions.{within, dataRegion, inRom, inProgramB0, programPresent}
 use Rattle.board.specs.Slices.{slicesFit}
 use Rattle.board.specs.Windows.{windowStart}
 use Rattle.board.specs.Given.{Given}
-use Rattle.steps.specs.declared.Outside.{Outside}
 use Rattle.steps.specs.declared.Plan.{Plan}
 use Rattle.steps.specs.declared.Write.{Write}
 use Rattle.steps.specs.declared.Write.the-variants as Write
 use Rattle.steps.specs.Rows.{Row, row, firstGiven, NoneHolds}
 use Rattle.steps.specs.OperandFound.{foundFor, noneOutside}
 use Rattle.steps.specs.Refusals.{wrongPort, dataAbsent, inputDry}
-use Rattle.steps.specs.Stores.{dataAfter, outputAfter}
+use Rattle.steps.specs.Stores.{writeOf, dataAfter, outputAfter}
 use Rattle.steps.specs.Pass.{wordsRead, effectOf, passedWrite}
 use Rattle.steps.specs.World.{World, RunOutcome}
 use Rattle.steps.specs.Table.{decodedAt, secondWord, notRepeatable, secondAbsent, tableFor, checksOf}
@@ -187,12 +186,23 @@ addressesWritten (Write.Sent at word) = []
 
 -- "both equal the counts that the instruction's rule gives, and a refused step adds none"
 pub record CountsOfAStep (g : Given) (w : World) : Type 0 where
+  -- A page that does not read its word is handed 0, and cannot see it. That every page that is said to read uses its word stands in the list of traits.
+  pub unread : (i : Instruction) → addressesRead (traitsOf i .access) (addressOf (traitsOf i .operand) (w .m)) ≡ []
+      → wordsRead (traitsOf i) (secondWord i g (w .«data») (w .m)) g (w .«data») (w .m) .operand ≡ 0
   pub reads-of-page : (i : Instruction) → decodedAt g (w .«data») (w .m) ≡ Built i → stepOf g w .answer ≡ Done
       → planIn g w .outside .reads ≡ externalAmong (addressesRead (traitsOf i .access) (addressOf (traitsOf i .operand) (w .m)))
   pub writes-stored : planIn g w .outside .writes ≡ externalAmong (addressesWritten (planIn g w .write))
   pub one-read : planIn g w .outside .reads ≤ 1
   pub one-write : planIn g w .outside .writes ≤ 1
   pub refused-none : isDone (stepOf g w .answer) ≡ false → planIn g w .outside ≡ noneOutside
+
+-- "the word is copied to the next address only where both addresses lie in on-chip blocks": the region that a pass finds is that of its operand's address
+-- wherever its store goes by it
+abbrev pub StoresByAddress : Type 0
+StoresByAddress = (g : Given) (w : World) (i : Instruction)
+    → passedWrite (traitsOf i) i (secondWord i g (w .«data») (w .m)) g (w .«data») (w .m)
+    ≡ writeOf (effectOf (traitsOf i) i (secondWord i g (w .«data») (w .m)) g (w .«data») (w .m) .store) (dataRegion (w .m .cnf) (addressOf (traitsOf i .operand) (w .m)))
+    (w .m .cnf) (addressOf (traitsOf i .operand) (w .m)) (w .m .«output_cursor»)
 
 -- the plans of the first k steps
 unfoldable pub plansOfSteps : Given → ℕ → World → List Plan
@@ -237,6 +247,12 @@ abbrev pub TallyContinued : (S : Type 0) → (Plan → S → S) → Type 0
 TallyContinued S keep = (g : Given) (further : List ℕ) (budget : ℕ) (w : World) (s : S) → length (g .input ++ further) ≤ 1024
     → tallied keep (plansOf (withFurther g further) budget w) s
     ≡ tallied keep (plansOf (withFurther g further) (budget - runOf g budget w .steps) (runOf g budget w .world)) (tallied keep (plansOf g budget w) s)
+
+-- so that the counts of both runs add
+abbrev pub CountsContinued : Type 0
+CountsContinued = (g : Given) (further : List ℕ) (budget : ℕ) (w : World) → length (g .input ++ further) ≤ 1024
+    → outsideOf (withFurther g further) budget w
+    ≡ bothOutside (outsideOf g budget w) (outsideOf (withFurther g further) (budget - runOf g budget w .steps) (runOf g budget w .world))
 
 -- a world in which the next step is an IN from port 0, and the cursor is at the end of the input
 pub record AtDryPort (g : Given) (w : World) : Type 0 where

@@ -12,7 +12,6 @@ use Rattle.instructions.specs.declared.Instruction.{Instruction}
 use Rattle.instructions.specs.declared.Decoded.{Decoded}
 use Rattle.instructions.specs.declared.Decoded.the-variants.{Built, Unbuilt, Nothing}
 use Rattle.pages.specs.Traits.{traitsOf}
-use Rattle.pages.specs.Addressing.{addressOf}
 use Rattle.steps.specs.Rows.{Row, row, firstGiven, NoneHolds}
 use Rattle.steps.specs.Stores.{dataAfter, outputAfter}
 use Rattle.steps.specs.World.{World}

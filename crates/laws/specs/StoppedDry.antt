@@ -17,7 +17,6 @@ use Rattle.instructions.specs.declared.Transfers.the-variants.{In}
 use Rattle.instructions.specs.declared.Decoded.{Decoded}
 use Rattle.instructions.specs.declared.Decoded.the-variants.{Built, Unbuilt, Nothing}
 use Rattle.pages.specs.Traits.{transfersTraits, traitsOf}
-use Rattle.pages.specs.Addressing.{addressOf}
 use Rattle.board.specs.Given.{Given}
 use Rattle.board.specs.Slices.{portSpent}
 use Rattle.board.specs.SliceLaws.{slices-fit, longer-fits, port-ended}

@@ -33,7 +33,6 @@ use Rattle.slices.proofs.port_fits.Reads as PortFits
 use Rattle.slices.proofs.port_spent.Reads as PortSpent
 use Rattle.slices.proofs.slices_fit.Reads as SlicesFit
 use Rattle.slices.proofs.part.Reads as Part
-use Rattle.slices.proofs.data_word.Reads as DataWord
 use Rattle.slices.proofs.input_word.Reads as InputWord
 use Rattle.slices.proofs.store_at.Reads as StoreAt
 use Rattle.slices.proofs.store_word.Reads as SlicesStoreWord
@@ -146,9 +145,6 @@ slices-fit κs a r r′ e e′ p q = same p q
 
 pub part : OnePart Part.Post
 part κs a r r′ e e′ p q = same-pair (same (p .0) (q .0)) (same (p .1) (q .1))
-
-pub data-word : OneResult DataWord.Post
-data-word κs a r r′ e e′ p q = same p q
 
 pub input-word : OneResult InputWord.Post
 input-word κs a r r′ e e′ p q = same p q

@@ -1,8 +1,6 @@
 // Which data and program addresses are on the board. A data address has 32 bits, as `address_of` gives it; PC has 16.
 use board::Region;
 ghost use mathlib.Core.Path.{_≡_};
-ghost use mathlib.Core.Bool.{true};
-ghost use Prim.Native.Nat.{_<_};
 ghost use Rattle.board.specs.Regions.{present, onChipRegion, accessOutside, dataRegion, onChip, moveAllowed, inRom, inProgramB0, programPresent};
 
 pub fn region_present(region: Region) -> bool
@@ -67,13 +65,12 @@ pub fn on_chip(cnf: u8, address: u32) -> bool
     region_on_chip(data_region(cnf, address))
 }
 
-// Whether a data move copies the word that was found in a region, at an address, to the next one. The next one is asked for only from an address on
-// chip: there it cannot overflow.
+// Whether a data move copies the word that was found in a region, at an address, to the next one. From 0400h on no next one is on chip, and below the
+// sum cannot overflow.
 pub fn move_allowed(region: Region, cnf: u8, address: u32) -> bool
-    requires { ⌜ (onChipRegion region ≡ true → address < 1024) ⌝ }
     ensures { λ r. ⌜ r ≡ moveAllowed region cnf address ⌝ }
 {
-    if !region_on_chip(region) {
+    if !(region_on_chip(region) & (address < 0x400)) {
         return false;
     }
     on_chip(cnf, address + 1)

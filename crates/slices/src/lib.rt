@@ -74,12 +74,6 @@ fn word_at(words: &[u16], at: u16) -> u16
     if i < words.len() { words[i] } else { 0 }
 }
 
-pub fn data_word(data: &[u16], address: u16) -> u16
-    ensures { λ r. ⌜ r ≡ getD (now («data» .entry)) address 0 ⌝ }
-{
-    word_at(data, address)
-}
-
 // The word that an IN finds. A dry port refuses the step before (11), so that nothing stores the 0 that stands for no word.
 pub fn input_word(input: &[u16], cursor: u16) -> u16
     ensures { λ r. ⌜ r ≡ getD (now (input .entry)) cursor 0 ⌝ }

@@ -1,4 +1,4 @@
--- The operand of a pass: what is found at its address, and what its access counts outside the chip (document 02, request 7).
+-- The operand of a pass: what is found at its address, and what its access counts in external RAM (document 02, request 7).
 use mathlib.Core.List.{List}
 use Prim.Native.Nat.{ℕ}
 use Rattle.machine.specs.declared.Machine.{Machine}

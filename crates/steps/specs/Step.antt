@@ -23,7 +23,7 @@ pagePlan (Built i) g «data» m = performed (traitsOf i) i (secondWord i g «dat
 pagePlan Unbuilt g «data» m = refused m Done
 pagePlan Nothing g «data» m = refused m Done
 
--- Cells, answer and store of a step, by value: the refusal by the first row of the table that holds, and else what the page's rule makes of the machine.
+-- Cells, answer and store of a step, and what it counts, by value: the refusal by the first row of the table that holds, and else what the page's rule makes of the machine.
 unfoldable pub planOf : Given → List ℕ → ℕ → Machine → Plan
 planOf g «data» outputLength m =
     planBy (tableFor (decodedAt g «data» m) g «data» outputLength m) m

@@ -1,7 +1,6 @@
--- A page that stores a word at its operand's address is one that writes, and every one that writes stores one: what a step stores lies on the board, and its
--- external writes are the words that it stores in external RAM.
+-- A page that stores a word at its operand's address is one that writes, and every one that writes stores one. What a step stores lies on the board.
 use mathlib.Core.Path.{_≡_, refl, sym, subst}
-use mathlib.Core.Bool.{Bool, true, false, not, cond, _&&_, false≢true}
+use mathlib.Core.Bool.{Bool, true, false, not, cond, _&&_}
 use mathlib.Core.List.{List}
 use Prim.Native.Nat.{ℕ, _+_, _<_}
 use native.Mathlib.Omega.{arith}
@@ -38,9 +37,8 @@ use Rattle.pages.specs.declared.Words.{Words}
 use Rattle.pages.specs.Rules.{ruleOf}
 use Rattle.pages.specs.Addressing.{addressOf}
 use Rattle.board.specs.declared.Region.{Region}
-use Rattle.board.specs.Regions.{present, onChipRegion, onChip, moveAllowed}
-use Rattle.board.specs.RegionLaws.{present-below, on-chip-below, moves}
-use Rattle.board.specs.Finding.{foundAt}
+use Rattle.board.specs.Regions.{present, moveAllowed}
+use Rattle.board.specs.RegionLaws.{present-below, moves}
 use Rattle.board.specs.Given.{Given}
 use Rattle.steps.specs.declared.Write.{Write}
 use Rattle.steps.specs.declared.Write.the-variants as Write
@@ -195,13 +193,6 @@ module _ (cnf address : ℕ) (d : List ℕ) where
 
   abbrev writeBy : Access → Store → ℕ → Write
   writeBy access store cursor = writeOf store (regionBy access) cnf address cursor
-
-  -- what is found on chip lies below 1,024
-  pub found-below : (access : Access) → onChipRegion (regionBy access) ≡ true → address < 1024
-  unfolding operandFound foundAt onChip
-  found-below Access.None h = absurd (false≢true h)
-  found-below Access.Reads h = on-chip-below cnf address h
-  found-below Access.Writes h = on-chip-below cnf address h
 
   moved-fits : (allowed : Bool) (region : Region) (word size : ℕ) → moveAllowed region cnf address ≡ allowed → size ≡ 4096
       → WriteFits (cond allowed (Write.Data (address + 1) word) Write.Nothing) size

@@ -1,4 +1,4 @@
-// A pass, a step and a run as definitions, in specs/ alone: the functions that do them stand above. Here are only the types of a store, of what is counted outside the chip, and of a plan.
+// A pass, a step and a run as definitions, in specs/ alone: the functions that do them stand above. Here are only the types of a store, of what is counted in external RAM, and of a plan.
 use answers::Answer;
 use machine::Machine;
 

@@ -3,13 +3,9 @@ use board::Region;
 use pages::Store;
 use steps::Write;
 ghost use mathlib.Core.Path.{_≡_};
-ghost use mathlib.Core.Bool.{true};
-ghost use Prim.Native.Nat.{_<_};
-ghost use Rattle.board.specs.Regions.{onChipRegion};
 ghost use Rattle.steps.specs.Stores.{writeOf};
 
 pub fn write_of(store: Store, region: Region, cnf: u8, address: u32, cursor: u16) -> Write
-    requires { ⌜ (onChipRegion region ≡ true → address < 1024) ⌝ }
     ensures { λ r. ⌜ r ≡ writeOf store region cnf address cursor ⌝ }
 {
     match store {

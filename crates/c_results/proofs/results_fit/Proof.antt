@@ -1,6 +1,5 @@
 use Rattle.c_results.specs.Results.{resultsFit}
 use mathlib.Core.Path.{refl}
-use borrow.Author.Needs.{needs}
 use Rattle.c_results.proofs.results_fit.Statement.{statement}
 use Rattle.c_results.proofs.results_fit.Tie as tie
 

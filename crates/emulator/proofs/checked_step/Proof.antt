@@ -1,5 +1,5 @@
 -- Not routine: once checks 1 and 2 are passed, the plan made from the fetch on is the step's whole plan, and its store lies in the data slice.
-use mathlib.Core.Path.{sym, _∙_, ap}
+use mathlib.Core.Path.{_∙_, ap}
 use Rattle.steps.specs.declared.Plan.{Plan}
 use Rattle.steps.specs.Step.{stepOf, afterStore}
 use Rattle.emulator.specs.RunLaws.{words-fit, table-plan, table-fits}

@@ -9,7 +9,7 @@ use Rattle.answers.specs.Numbers.{isDone}
 use Rattle.answers.specs.NumberLaws.{done-is}
 use Rattle.steps.specs.StepLaws.{running-stops}
 use Rattle.emulator.specs.Outcomes.{stepped}
-use Rattle.emulator.specs.RunLaws.{refused-run, refused-counts, words-fit, Going, going-begins, going-checks, going-on, going-ends, Counting, counting-begins, counting-goes, counting-stops, counting-ends, counted-fits}
+use Rattle.emulator.specs.RunLaws.{refused-run, refused-counts, words-fit, Going, going-begins, going-checks, going-on, going-ends, Totalling, totalling-begins, totalling-goes, totalling-stops, totalling-ends, counted-fits}
 use Rattle.emulator.proofs.run.Statement.{statement}
 use Rattle.emulator.proofs.run.Tie as tie
 
@@ -17,7 +17,7 @@ use Rattle.emulator.proofs.run.Tie as tie
 abbrev Inv-loop : tie.InvT-loop
 Inv-loop rom data₀ input output₀ budget kinds n₀ steps₀ totals₀ «data» output n steps totals =
     Going (given rom input) budget (record { m = n₀; «data» = data₀; output = output₀ }) (record { m = n; «data» = «data»; output = output }) steps
-    × Counting (given rom input) budget (record { m = n₀; «data» = data₀; output = output₀ }) (record { m = n; «data» = «data»; output = output }) steps totals
+    × Totalling (given rom input) budget (record { m = n₀; «data» = data₀; output = output₀ }) (record { m = n; «data» = «data»; output = output }) steps totals
 
 abbrev μ-loop : tie.MeasureT-loop
 μ-loop rom data₀ input output₀ budget kinds n₀ steps₀ totals₀ «data» output n steps totals = budget - steps
@@ -44,7 +44,7 @@ loop-holds c = (
       (words-fit (c .before .before .before .before .before .before .before .before .before .args .input .now) (λ i. c .before .before .before .before .before .before .shared-slice-known2 .given i .fits))
       (words-fit (c .before .before .before .before .before .before .before .before .before .args .«data» .now) (λ i. c .before .before .before .before .before .before .before .slice-known .given i .fits))
       (words-fit (c .before .before .before .before .before .before .before .before .before .args .output .now) (λ i. c .before .before .before .before .before .slice-known2 .given i .fits)),
-  counting-begins _ _ _,
+  totalling-begins _ _ _,
 )
 
 apart-requires : tie.Need-apart-requires Inv-loop μ-loop
@@ -84,7 +84,7 @@ loop-again c =
           (c .before .before .before .before .before .before .before .before .before .checked-step .kept .1 .1 .1 .0)
           (c .before .before .before .before .before .before .before .before .before .checked-step .kept .1 .1 .1 .1 .1 .0),
       rw (c .in-one .ensures)
-          (counting-goes _ _ _ _ _ _ (c .before .before .before .before .before .before .before .before .before .before .before .before .before .before .loop .inv .1)
+          (totalling-goes _ _ _ _ _ _ (c .before .before .before .before .before .before .before .before .before .before .before .before .before .before .loop .inv .1)
           (stepped (c .before .before .before .before .before .before .before .before .before .checked-step .result) (c .before .before .before .before .before .before .before .before .before .checked-step .last .1 .1 .1 .0) (c .before .before .before .before .before .before .before .before .before .checked-step .last .1 .1 .1 .1 .1 .0))
           (c .before .before .before .before .before .before .before .before .before .checked-step .ensures .0)
           (c .before .before .before .before .before .before .before .before .before .before .before .before .before .if2 .left)
@@ -95,7 +95,7 @@ loop-again c =
 returns-2 : tie.Need-returns-2 Inv-loop μ-loop
 returns-2 c = (
   going-ends _ _ _ _ _ (c .before .before .loop .inv .0) (c .before .if2 .taken),
-  c .apart .ensures ∙ counting-ends _ _ _ _ _ _ (c .before .before .loop .inv .1) (omega (arith, c .before .before .loop .inv .0 .running .within, c .before .before .before .before .before .before .before .before .before .before .before .before .fits .budget)) (c .before .if2 .taken),
+  c .apart .ensures ∙ totalling-ends _ _ _ _ _ _ (c .before .before .loop .inv .1) (omega (arith, c .before .before .loop .inv .0 .running .within, c .before .before .before .before .before .before .before .before .before .before .before .before .fits .budget)) (c .before .if2 .taken),
 )
 
 returns-3 : tie.Need-returns-3 Inv-loop μ-loop
@@ -107,7 +107,7 @@ returns-3 c =
           (c .before .before .before .before .before .before .before .before .before .before .before .before .if2 .left)
           refused,
       c .apart2 .ensures
-          ∙ counting-stops _ _ _ _ _ _ (c .before .before .before .before .before .before .before .before .before .before .before .before .before .loop .inv .1) (omega (arith, c .before .before .before .before .before .before .before .before .before .before .before .before .before .before .before .before .before .before .before .before .before .before .before .fits .budget))
+          ∙ totalling-stops _ _ _ _ _ _ (c .before .before .before .before .before .before .before .before .before .before .before .before .before .loop .inv .1) (omega (arith, c .before .before .before .before .before .before .before .before .before .before .before .before .before .before .before .before .before .before .before .before .before .before .before .fits .budget))
           (stepped (c .before .before .before .before .before .before .before .before .checked-step .result) (c .before .before .before .before .before .before .before .before .checked-step .last .1 .1 .1 .0) (c .before .before .before .before .before .before .before .before .checked-step .last .1 .1 .1 .1 .1 .0))
           (c .before .before .before .before .before .before .before .before .checked-step .ensures .0)
           (c .before .before .before .before .before .before .before .before .before .before .before .before .if2 .left)

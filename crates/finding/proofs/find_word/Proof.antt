@@ -1,5 +1,4 @@
 -- Not routine: past the end of the slice the definition reads its default, 0.
-use mathlib.Core.Path.{sym}
 use native.Mathlib.Omega.{arith}
 use lib.ListN.{List·getD-eq-default}
 use Rattle.board.specs.Finding.{foundAt}

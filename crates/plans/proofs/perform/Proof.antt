@@ -1,7 +1,5 @@
 use mathlib.Core.Path.{ap}
 use Rattle.board.specs.declared.Found.{Found}
-use Rattle.steps.specs.OperandFound.{foundFor}
-use Rattle.steps.specs.StoreLaws.{found-below}
 use Rattle.steps.specs.Pass.{performed, passedMachine, passedWrite, effectOf, wordsRead}
 use Rattle.plans.specs.PassWords.{memoryWords, withPort}
 use borrow.Author.Needs.{needs}
@@ -25,12 +23,6 @@ returns c =
       ← c .before .before .before .before .before .before .before .before .before .pre .0 .0,
     )
 
-write-of-requires : tie.Need-write-of-requires
-unfolding foundFor
-write-of-requires c κs =
-    rw (c .before .before .before .before .before .before .before .before .pre .0 .1, c .before .before .before .before .before .before .before .before .pre .0 .0)
-    (found-below (c .before .before .before .before .before .before .before .before .args .m .cnf) _ (c .before .before .before .before .before .before .before .before .args .«data» .now) (c .before .before .before .before .before .before .before .before .args .t .access))
-
 pub perform-spec : {M : Type 1} → statement M
 perform-spec =
     tie.close
@@ -39,5 +31,5 @@ perform-spec =
     (λ c κs. search needs)
     (λ c κs. search needs)
     (λ c κs. search needs)
-    write-of-requires
+    (λ c κs. search needs)
     returns)
