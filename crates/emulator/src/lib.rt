@@ -32,7 +32,7 @@ pub struct Ran {
     pub outside: Outside,
 }
 
-// Both counts in one number, the writes in its upper half. A run keeps its totals so: one sum beside its steps costs some 10 instructions of a step less
+// Both counts in one number, the writes in its upper half. A run keeps its totals so: one sum beside its steps takes 7 to 19 instructions of a step less
 // than two (docs/PERFORMANCE.md).
 fn in_one(outside: Outside) -> u32
     ensures { λ r. ⌜ r ≡ inOne outside ⌝ }

@@ -100,8 +100,8 @@ fn rule(i: Instruction, before: Machine, m: Machine, words: MemoryWords, input: 
     }
 }
 
-// A pass that nothing refuses, of an operand that was found at its address, and what that counts outside: worked out here, it would cost a step some
-// 10 instructions more.
+// A pass that nothing refuses, of an operand that was found at its address, and what that counts outside: worked out here, it would take some 13
+// instructions of a step more.
 fn perform<'a>(
     i: Instruction,
     t: Traits,
