@@ -25,13 +25,13 @@ use Rattle.steps.specs.OperandFound.{operandFound, foundFor, outsideBy}
 use Rattle.steps.specs.Stores.{writeOf}
 use Rattle.steps.specs.Pass.{wordsRead, performed, passedWrite, effectOf}
 use Rattle.steps.specs.World.{World}
-use Rattle.steps.specs.Table.{decodedAt, secondWord}
+use Rattle.steps.specs.Table.{decodedAt}
 use Rattle.steps.specs.Step.{pagePlan, stepOf}
 use Rattle.steps.specs.StoreLaws.{StoreAllowed, store-fits}
 use Rattle.steps.specs.TableLaws.{step-plan}
 use Rattle.steps.specs.Tally.{planIn}
 use Rattle.steps.specs.TallyLaws.{step-has, few-outside, refused-none}
-use Rattle.laws.specs.Laws.{externalAmong, addressesRead, addressesWritten, CountsOfAStep, StoresByAddress}
+use Rattle.laws.specs.Laws.{externalAmong, addressesRead, addressesWritten, CountsOfAStep, StoresByAddress, wordsAt}
 
 -- one address in external RAM or not
 one-among : (cnf a : ℕ) → cond (within 0x400 0xFFF a) 1 0 + 0 ≡ accessOutside (dataRegion cnf a)
@@ -104,7 +104,7 @@ module _ (g : Given) (w : World) where
   reads-of-page i d e = ap (λ (p : Plan). p .outside .reads) (step-plan g w i d e) ∙ read-by (w .m .cnf) (addressOf (traitsOf i .operand) (w .m)) (w .«data») (traitsOf i .access)
 
   unread : (i : Instruction) → addressesRead (traitsOf i .access) (addressOf (traitsOf i .operand) (w .m)) ≡ []
-      → wordsRead (traitsOf i) (secondWord i g (w .«data») (w .m)) g (w .«data») (w .m) .operand ≡ 0
+      → wordsAt g w i .operand ≡ 0
   unfolding wordsRead foundFor
   unread i e = unread-by (w .m .cnf) (addressOf (traitsOf i .operand) (w .m)) (w .«data») (traitsOf i .access) e
 

@@ -165,6 +165,19 @@ pub record RunsAdd (g : Given) (a b : ℕ) (w : World) : Type 0 where
       → runOf g (a + b) w ≡ continued a (runOf g b (runOf g a w .world))
   pub first-refused : isDone (runOf g a w .answer) ≡ false → runOf g (a + b) w ≡ runOf g a w
 
+-- ---- a pass of an instruction
+
+-- the words that a pass of an instruction reads
+abbrev pub wordsAt : Given → World → Instruction → Words
+wordsAt g w i = wordsRead (traitsOf i) (secondWord i g (w .«data») (w .m)) g (w .«data») (w .m)
+
+-- what the rule of an instruction makes of a world, and what it stores
+abbrev pub effectAt : Given → World → Instruction → Effect
+effectAt g w i = effectOf (traitsOf i) i (secondWord i g (w .«data») (w .m)) g (w .«data») (w .m)
+
+abbrev pub writeAt : Given → World → Instruction → Write
+writeAt g w i = passedWrite (traitsOf i) i (secondWord i g (w .«data») (w .m)) g (w .«data») (w .m)
+
 -- ---- reads and writes of external RAM (document 02, request 7)
 
 -- "external RAM (0400h to 0FFFh)": how many of these data addresses lie in it
@@ -188,7 +201,7 @@ addressesWritten (Write.Sent at word) = []
 pub record CountsOfAStep (g : Given) (w : World) : Type 0 where
   -- A page that does not read its word is handed 0, and cannot see it. That every page that is said to read uses its word stands in the list of traits.
   pub unread : (i : Instruction) → addressesRead (traitsOf i .access) (addressOf (traitsOf i .operand) (w .m)) ≡ []
-      → wordsRead (traitsOf i) (secondWord i g (w .«data») (w .m)) g (w .«data») (w .m) .operand ≡ 0
+      → wordsAt g w i .operand ≡ 0
   pub reads-of-page : (i : Instruction) → decodedAt g (w .«data») (w .m) ≡ Built i → stepOf g w .answer ≡ Done
       → planIn g w .outside .reads ≡ externalAmong (addressesRead (traitsOf i .access) (addressOf (traitsOf i .operand) (w .m)))
   pub writes-stored : planIn g w .outside .writes ≡ externalAmong (addressesWritten (planIn g w .write))
@@ -199,10 +212,8 @@ pub record CountsOfAStep (g : Given) (w : World) : Type 0 where
 -- "the word is copied to the next address only where both addresses lie in on-chip blocks": the region that a pass finds is that of its operand's address
 -- wherever its store goes by it
 abbrev pub StoresByAddress : Type 0
-StoresByAddress = (g : Given) (w : World) (i : Instruction)
-    → passedWrite (traitsOf i) i (secondWord i g (w .«data») (w .m)) g (w .«data») (w .m)
-    ≡ writeOf (effectOf (traitsOf i) i (secondWord i g (w .«data») (w .m)) g (w .«data») (w .m) .store) (dataRegion (w .m .cnf) (addressOf (traitsOf i .operand) (w .m)))
-    (w .m .cnf) (addressOf (traitsOf i .operand) (w .m)) (w .m .«output_cursor»)
+StoresByAddress = (g : Given) (w : World) (i : Instruction) → writeAt g w i
+    ≡ writeOf (effectAt g w i .store) (dataRegion (w .m .cnf) (addressOf (traitsOf i .operand) (w .m))) (w .m .cnf) (addressOf (traitsOf i .operand) (w .m)) (w .m .«output_cursor»)
 
 -- the plans of the first k steps
 unfoldable pub plansOfSteps : Given → ℕ → World → List Plan
@@ -277,17 +288,6 @@ abbrev pub RunStoppedDry : Type 0
 RunStoppedDry = (g : Given) (budget : ℕ) (w : World) → runOf g budget w .answer ≡ InputDry → StoppedDry g budget w
 
 -- ---- a repeated instruction
-
--- the words that a pass of an instruction reads
-abbrev pub wordsAt : Given → World → Instruction → Words
-wordsAt g w i = wordsRead (traitsOf i) (secondWord i g (w .«data») (w .m)) g (w .«data») (w .m)
-
--- what the rule of an instruction makes of a world, and what it stores
-abbrev pub effectAt : Given → World → Instruction → Effect
-effectAt g w i = effectOf (traitsOf i) i (secondWord i g (w .«data») (w .m)) g (w .«data») (w .m)
-
-abbrev pub writeAt : Given → World → Instruction → Write
-writeAt g w i = passedWrite (traitsOf i) i (secondWord i g (w .«data») (w .m)) g (w .«data») (w .m)
 
 -- the world with another RPTC
 abbrev pub recounted : World → ℕ → World
