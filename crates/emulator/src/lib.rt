@@ -85,13 +85,13 @@ fn checked_step(
     ensures external { λ r. ⌜ r .outside ≡ planIn (given (now (rom .entry)) (now (input .entry))) (record { m = m; «data» = now («data» .entry); output = now (output .entry) }) .outside ⌝ }
 {
     let p = plan_fetched(kinds, rom, &data[..], input, output.len(), m);
-    let n = p.m;
+    let next = p.m;
     let answer = p.answer;
     let write = p.write;
     let outside = p.outside;
     commit(write, data, output);
     Stepped {
-        m: n,
+        m: next,
         answer,
         outside,
     }
