@@ -1,4 +1,5 @@
 // Auxiliary registers by number, the address of an operand and of a table word, and the modification that an indirect operand asks for.
+#![tactic(auto)]
 
 ghost use Rattle.std.specs.Prelude.{◌≡◌, cond};
 ghost use Rattle.machine.specs.Cells.{register, with_register};

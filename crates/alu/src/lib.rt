@@ -1,7 +1,8 @@
 // What words, sums, shifts and products are, in specs/ alone: the functions stand above, each kind in a crate of its own. Here are only the types of their results.
+#![tactic(auto)]
 
 // What a sum or a difference leaves in ACC, OV and C.
-#[derive(Drop)]
+#[derive(Clone, Copy)]
 pub struct Sum {
     pub acc: u32,
     pub ov: u8,
@@ -9,7 +10,7 @@ pub struct Sum {
 }
 
 // What SFL and SFR leave in ACC and C.
-#[derive(Drop)]
+#[derive(Clone, Copy)]
 pub struct Shifted {
     pub acc: u32,
     pub c: u8,

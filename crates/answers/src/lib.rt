@@ -1,8 +1,10 @@
+#![tactic(auto)]
+
 ghost use Rattle.std.specs.Prelude.{◌≡◌};
 ghost use Rattle.answers.specs.Numbers.{number_of, is_done};
 
 // The answers of document 01, "Numbers that come back", and those that document 02 adds; specs/Numbers.antt has when each is given.
-#[derive(Drop)]
+#[derive(Clone, Copy)]
 pub enum Answer {
     Done,
     CellOutOfRange,

@@ -1,4 +1,6 @@
 // The pages of the auxiliary registers and the data page pointer, by value.
+#![tactic(auto)]
+
 ghost use Rattle.std.specs.Prelude.{◌≡◌};
 ghost use Rattle.pages.specs.AuxiliaryPages.{LAR, SAR, LARK, MAR, ADRK, SBRK, LDP, LDPK};
 ghost use Rattle.pages.specs.AuxiliaryRule.{auxiliary_rule};

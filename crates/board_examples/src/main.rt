@@ -8,6 +8,8 @@
 //   F  writing a file: the bytes that are lent, two places among them; shows what they hold
 //   U  setting up: the bytes of the file, the words of the input slice, two places; shows what they hold. A place's first digit is its
 //      slice: 0 data memory, 1 ROM, 2 input; 3 shows 0
+#![tactic(auto)]
+
 ghost use Rattle.std.specs.Prelude.{◌<◌, ◌≤◌};
 
 use answers::{Answer, number};
@@ -18,7 +20,7 @@ const STDIN: i32 = 0;
 const STDOUT: i32 = 1;
 
 // What a case shows.
-#[derive(Drop)]
+#[derive(Clone, Copy)]
 struct Shown {
     answer: u8,
     first: u64,

@@ -1,4 +1,6 @@
 // What a call does with the cells that it was lent: they are refused, reset, or hold a machine again, with the numbers that come back.
+#![tactic(auto)]
+
 ghost use Rattle.std.specs.Prelude.{◌≡◌};
 ghost use Rattle.answers.specs.Numbers.{number_of, is_done};
 ghost use Rattle.machine.specs.Reset.{reset_machine};

@@ -1,3 +1,5 @@
+#![tactic(auto)]
+
 // The machine's cells as numbers, for callers that have no Machine: in the order of document 01, "The cells of the machine".
 pub mod checking;
 pub mod reading;

@@ -1,4 +1,6 @@
 // Run files in numbers: writing.
+#![tactic(auto)]
+
 ghost use Rattle.std.specs.Prelude.{◌≡◌, length};
 ghost use Rattle.answers.specs.Numbers.{number_of};
 ghost use Rattle.runfile.specs.Files.{file_length};

@@ -1,4 +1,6 @@
 // What a run hands out beside the machine, by its places in a slice of numbers.
+#![tactic(auto)]
+
 ghost use Rattle.std.specs.Prelude.{◌≡◌};
 ghost use Rattle.c_results.specs.Results.{results_fit, results_after};
 

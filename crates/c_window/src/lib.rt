@@ -1,2 +1,4 @@
+#![tactic(auto)]
+
 // The fetch window of a machine in numbers.
 pub mod window;

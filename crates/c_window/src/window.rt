@@ -11,7 +11,7 @@ use regions::in_rom;
 use windows::{window, window_answer};
 
 // Where a window stands: in the program memory (1), in the data memory (2) or nowhere (0).
-#[derive(Drop)]
+#[derive(Clone, Copy)]
 pub struct Place {
     pub memory: u32,
     pub from: usize,

@@ -1,4 +1,6 @@
 // The words sent of a machine in numbers.
+#![tactic(auto)]
+
 ghost use Rattle.std.specs.Prelude.{◌≡◌};
 ghost use Rattle.c_words_sent.specs.Sent.{counted, sent_called};
 

@@ -1,11 +1,13 @@
 // Decodes every word and prints, for each upper byte, how many of its 256 words are built, published and not built, and in no
 // encoding; and last the three totals. The expected output was worked out from the prints of Table 4-4 and the rulings R1 to R5 by a
 // program of its own in another language, which shares no table with the decoder.
+#![tactic(auto)]
+
 use instructions::Decoded;
 
 const STDOUT: i32 = 1;
 
-#[derive(Drop)]
+#[derive(Clone, Copy)]
 struct Counts {
     built: u64,
     unbuilt: u64,

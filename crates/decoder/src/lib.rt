@@ -1,4 +1,6 @@
 // The decoder: a table of the 256 upper bytes gives the kind, and the low byte the page.
+#![tactic(auto)]
+
 ghost use Rattle.std.specs.Prelude.{◌≡◌, get_or};
 ghost use Rattle.instructions.specs.Decode.{decode_of};
 ghost use Rattle.instructions.specs.Places.{lower_in};

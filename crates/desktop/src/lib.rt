@@ -1,3 +1,5 @@
+#![tactic(auto)]
+
 // The library for programs in C: the emulator's functions over slices of numbers (include/crowmitten.h).
 pub mod files;
 pub mod running;

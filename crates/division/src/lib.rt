@@ -1,1 +1,2 @@
 // Division by sixteen passes of SUBC, in specs/ alone: no function is needed here.
+#![tactic(auto)]

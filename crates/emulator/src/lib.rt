@@ -1,4 +1,6 @@
 // Step and run.
+#![tactic(auto)]
+
 ghost use Rattle.std.specs.Prelude.{◌≡◌, ◌<◌, length, set};
 ghost use Rattle.answers.specs.declared.Answer.TheVariants.{Done};
 ghost use Rattle.kinds.specs.Table.{kind_table};
@@ -18,14 +20,14 @@ use machine::Machine;
 use steps::{Outside, Write};
 use summaries::{count_store, summary_fits};
 
-#[derive(Drop)]
+#[derive(Clone, Copy)]
 pub struct Stepped {
     pub m: Machine,
     pub answer: Answer,
     pub outside: Outside,
 }
 
-#[derive(Drop)]
+#[derive(Clone, Copy)]
 pub struct Ran {
     pub m: Machine,
     pub steps: u16,

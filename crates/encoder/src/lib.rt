@@ -1,3 +1,5 @@
+#![tactic(auto)]
+
 // The encoder: an instruction back to its word. A number above the bits that its page has for it gives its low bits.
 mod operand_words;
 

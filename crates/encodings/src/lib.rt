@@ -1,1 +1,2 @@
 // The word of an instruction (specs/Encode.antt), and the law that it decodes back to the instruction (specs/Back.antt).
+#![tactic(auto)]

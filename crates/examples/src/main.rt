@@ -1,3 +1,5 @@
+#![tactic(auto)]
+
 // Prints the name and the line of each example file.
 const STDOUT: i32 = 1;
 

@@ -1,4 +1,6 @@
 // From a machine that has passed checks 1 and 2 to the plan of its step: answers 5, 3, 4, 7 and 5 for the second word, then the pass.
+#![tactic(auto)]
+
 ghost use Rattle.std.specs.Prelude.{◌≡◌, cond, not, ◌&&◌, ltb};
 ghost use Rattle.board.specs.Windows.{program_word};
 ghost use Rattle.board.specs.Given.{given};

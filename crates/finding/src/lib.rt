@@ -1,4 +1,6 @@
 // The operand of a pass: the word and the region that are found at its address, together, and what its access counts in external RAM.
+#![tactic(auto)]
+
 ghost use Rattle.std.specs.Prelude.{◌≡◌};
 ghost use Rattle.board.specs.Finding.{found_at};
 ghost use Rattle.steps.specs.OperandFound.{operand_found, outside_by};

@@ -4,6 +4,8 @@
 // A line is `KIND PLACE VALUE LABEL`: N begins a case and prints its label, S puts the value into the place, T does one step, R runs with
 // the value as its budget, W does so by the call with results and with as many numbers of the summary as the place says, P prints its label
 // and the place in hexadecimal, E ends the case.
+#![tactic(auto)]
+
 ghost use Rattle.std.specs.Prelude.{◌<◌, ◌≤◌};
 
 use desktop::running::{crowmitten_reset, crowmitten_run, crowmitten_run_with, crowmitten_step};
@@ -14,7 +16,7 @@ const STDIN: i32 = 0;
 const STDOUT: i32 = 1;
 
 // What one line asks for.
-#[derive(Drop)]
+#[derive(Clone, Copy)]
 struct Line {
     kind: u8,
     place: u32,
@@ -22,7 +24,7 @@ struct Line {
 }
 
 // How a step or a run ended; only a run counts its steps, and only one with results its external reads and writes.
-#[derive(Drop)]
+#[derive(Clone, Copy)]
 struct Run {
     answer: u32,
     steps: u32,

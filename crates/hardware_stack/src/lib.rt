@@ -1,9 +1,11 @@
 // The eight-word stack: push and pop, by value and where it is lent.
+#![tactic(auto)]
+
 ghost use Rattle.std.specs.Prelude.{◌≡◌};
 ghost use Rattle.hardware_stack.specs.Stack.{push_of, pop_of, top_of};
 
 // The eight-word stack, its top first.
-#[derive(Drop)]
+#[derive(Clone, Copy)]
 pub struct Stack {
     pub words: [u16; 8],
 }

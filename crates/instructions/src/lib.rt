@@ -1,9 +1,10 @@
 // The decoded instruction: one case for each page of section 4.3 that is built, in the families of Table 4-4.
+#![tactic(auto)]
 
 use operands::{Address, Indirect};
 
 // A shift stands first where a page has one; the constants are of 8 bits.
-#[derive(Drop)]
+#[derive(Clone, Copy)]
 pub enum Accumulator {
     Add(u8, Address),
     Sub(u8, Address),
@@ -31,7 +32,7 @@ pub enum Accumulator {
 }
 
 // MPYK's constant is its 13 bits, unsigned; SPM's is the new PM.
-#[derive(Drop)]
+#[derive(Clone, Copy)]
 pub enum Multiplier {
     Lt(Address),
     Lta(Address),
@@ -55,7 +56,7 @@ pub enum Multiplier {
 }
 
 // An auxiliary register stands first where a page has one; LDPK's constant is of 9 bits.
-#[derive(Drop)]
+#[derive(Clone, Copy)]
 pub enum Auxiliary {
     Lar(u8, Address),
     Sar(u8, Address),
@@ -67,7 +68,7 @@ pub enum Auxiliary {
     Ldpk(u16),
 }
 
-#[derive(Drop)]
+#[derive(Clone, Copy)]
 pub enum Branches {
     B(Indirect),
     Banz(Indirect),
@@ -84,14 +85,14 @@ pub enum Branches {
 }
 
 // A port stands first.
-#[derive(Drop)]
+#[derive(Clone, Copy)]
 pub enum Transfers {
     Dmov(Address),
     In(u8, Address),
     Out(u8, Address),
 }
 
-#[derive(Drop)]
+#[derive(Clone, Copy)]
 pub enum Modes {
     Sovm,
     Rovm,
@@ -105,7 +106,7 @@ pub enum Modes {
     Pop,
 }
 
-#[derive(Drop)]
+#[derive(Clone, Copy)]
 pub enum Instruction {
     Accumulator(Accumulator),
     Multiplier(Multiplier),
@@ -116,7 +117,7 @@ pub enum Instruction {
 }
 
 // What a word is: an instruction that is built, one that is published and not built, or in no encoding.
-#[derive(Drop)]
+#[derive(Clone, Copy)]
 pub enum Decoded {
     Built(Instruction),
     Unbuilt,

@@ -1,6 +1,8 @@
 // What the decoder asks of a word's bytes: the table of the upper ones' kinds, and whether a low one is an operand as printed.
 // The table is stated in specs/Table.antt, its agreement with the encodings beside it; specs/Sieve.antt is the test of every byte that
 // both this crate and `pages_apart` compute.
+#![tactic(auto)]
+
 ghost use Rattle.std.specs.Prelude.{◌≡◌};
 ghost use Rattle.instructions.specs.Encoding.{low_fits};
 ghost use Rattle.kinds.specs.Table.{kind_table};

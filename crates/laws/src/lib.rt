@@ -1,1 +1,2 @@
 // Laws of steps and runs, in specs/ alone: no function is needed here.
+#![tactic(auto)]

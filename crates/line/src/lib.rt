@@ -1,4 +1,6 @@
 // The one line that a run file gives.
+#![tactic(auto)]
+
 ghost use Rattle.std.specs.Prelude.{◌≡◌};
 ghost use Rattle.line_fields.specs.Placing.{line_in, length_in};
 ghost use Rattle.line.specs.Lines.{line_of, refused_line};

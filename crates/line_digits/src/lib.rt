@@ -1,4 +1,6 @@
 // Digits in ASCII, and how many of them a number has.
+#![tactic(auto)]
+
 ghost use Rattle.std.specs.Prelude.{◌≡◌, ◌%◌, length};
 ghost use Rattle.line_digits.specs.Digits.{digit_of, decimal};
 

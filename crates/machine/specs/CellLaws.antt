@@ -32,8 +32,8 @@ module _ (number : String → ℕ) (words : String → List ℕ) where
   abbrev pub built_by : Machine
   built_by = built (λ n field. number n) (λ n field. words n)
 
-  pub rows_built : rows_held built_by ≡ rows_built number words cells
-  rows_built = refl
+  pub rows_built_lem : rows_held built_by ≡ rows_built number words cells
+  rows_built_lem = refl
 
   named : (cs : List Cell) (name : String) → row_named cs (rows_built number words cs) name ≡ in_column (row_given number words name) [] cs name
   named [] name = refl

@@ -1,3 +1,5 @@
+#![tactic(auto)]
+
 ghost use Rattle.std.specs.Prelude.{◌≡◌};
 ghost use Rattle.machine.specs.Reset.{reset_machine};
 ghost use Rattle.machine.specs.Range.{in_range};
@@ -6,7 +8,7 @@ ghost use Rattle.machine.specs.Stack.{push_on, pop_on};
 use hardware_stack::{Stack, pop, push};
 
 // The cells of document 01, "The cells of the machine". Flags and pointers are numbers, so that check 1 can find one out of its range.
-#[derive(Drop)]
+#[derive(Clone, Copy)]
 pub struct Machine {
     // First: the proofs that lend it know its place by that.
     pub stack: Stack,
@@ -33,7 +35,7 @@ pub struct Machine {
 }
 
 // A machine after a pop, and the word that was popped.
-#[derive(Drop)]
+#[derive(Clone, Copy)]
 pub struct AfterPop {
     pub m: Machine,
     pub word: u16,

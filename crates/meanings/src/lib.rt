@@ -1,4 +1,6 @@
 // What the page at a place in the list of pages makes of a word.
+#![tactic(auto)]
+
 ghost use Rattle.std.specs.Prelude.{◌≡◌, ◌<◌, ◌≤◌};
 ghost use Rattle.instructions.specs.Encoding.{modification_of, next_of, indirect_of, address_mode_of};
 ghost use Rattle.instructions.specs.Encoding.{accumulator, multiplier, auxiliary, branches, transfers, modes};

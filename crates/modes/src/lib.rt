@@ -1,4 +1,6 @@
 // The control pages, by value.
+#![tactic(auto)]
+
 ghost use Rattle.std.specs.Prelude.{◌≡◌};
 ghost use Rattle.pages.specs.ModesPages.{SOVM, ROVM, SSXM, RSXM, CNFD, CNFP, RPT, RPTK, PUSH, POP};
 ghost use Rattle.pages.specs.ModesRule.{modes_rule};

@@ -1,4 +1,6 @@
 // The pages of the T register, the P register and the multiplier, by value.
+#![tactic(auto)]
+
 ghost use Rattle.std.specs.Prelude.{◌≡◌};
 ghost use Rattle.machine.specs.Cells.{with_p, with_t};
 ghost use Rattle.pages.specs.MultiplierPages.{Lt, LTA, LTP, LTD, LTS, MPY, MPYA, MPYS, MPYK, SQRA, SQRS, MAC, MACD, PAC, APAC, SPAC, SPL, SPH, SPM};

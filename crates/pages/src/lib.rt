@@ -1,30 +1,32 @@
 // What the pages say, in specs/ alone: the functions that do it stand above, a crate for each family. Here are only the types that they share.
+#![tactic(auto)]
+
 use machine::Machine;
 use operands::Address;
 
 // What an instruction's address field asks for.
-#[derive(Drop)]
+#[derive(Clone, Copy)]
 pub enum Operand {
     Nothing,
     At(Address),
 }
 
 // Whether the addressed data word is read, written, or not touched.
-#[derive(Drop)]
+#[derive(Clone, Copy)]
 pub enum Access {
     None,
     Reads,
     Writes,
 }
 
-#[derive(Drop)]
+#[derive(Clone, Copy)]
 pub enum Port {
     None,
     Input(u8),
     Output(u8),
 }
 
-#[derive(Drop)]
+#[derive(Clone, Copy)]
 pub struct Traits {
     pub words: u16,
     pub port: Port,
@@ -36,7 +38,7 @@ pub struct Traits {
 }
 
 // The words that a pass reads. What the instruction does not use is not looked at.
-#[derive(Drop)]
+#[derive(Clone, Copy)]
 pub struct Words {
     // The data word at the operand's address.
     pub operand: u16,
@@ -50,7 +52,7 @@ pub struct Words {
 }
 
 // What a pass stores besides the machine's cells.
-#[derive(Drop)]
+#[derive(Clone, Copy)]
 pub enum Store {
     Nothing,
     // A data word, at the operand's address.
@@ -62,14 +64,14 @@ pub enum Store {
 }
 
 // Where PC goes: past the instruction's words, or to where the instruction sends it.
-#[derive(Drop)]
+#[derive(Clone, Copy)]
 pub enum Jump {
     Past,
     To(u16),
 }
 
 // The machine after a page's rule, RPTC, MID and PC not yet moved on, and what is to be stored.
-#[derive(Drop)]
+#[derive(Clone, Copy)]
 pub struct Effect {
     pub m: Machine,
     pub store: Store,

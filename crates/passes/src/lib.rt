@@ -1,4 +1,6 @@
 // What a page's rule gives, and what follows every pass.
+#![tactic(auto)]
+
 ghost use Rattle.std.specs.Prelude.{◌≡◌};
 ghost use Rattle.pages.specs.Passes.{with_sum, kept, stored, copied, sent, jumped, followed};
 

@@ -1,4 +1,6 @@
 // One pass of a decoded instruction, by value: what it reads and does, and its plan.
+#![tactic(auto)]
+
 ghost use Rattle.std.specs.Prelude.{◌≡◌, [], get_or};
 ghost use Rattle.pages.specs.Addressing.{address_of};
 ghost use Rattle.pages.specs.Rules.{rule_of};
@@ -30,7 +32,7 @@ pub fn program_word<'a>(cnf: u8, at: u16, rom: &'a [u16], data: &'a [u16]) -> u1
 }
 
 // The words that a pass reads from the memories, the operand's found before.
-#[derive(Drop)]
+#[derive(Clone, Copy)]
 struct MemoryWords {
     operand: u16,
     second: u16,

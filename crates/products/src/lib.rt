@@ -1,4 +1,6 @@
 // The signed product, and the product shift.
+#![tactic(auto)]
+
 ghost use Rattle.std.specs.Prelude.{◌≡◌, ◌≤◌};
 ghost use Rattle.alu.specs.Products.{product_word, long_constant, shifted_product, product_high, product_low};
 ghost use Rattle.products.specs.Scaling.{scaled, amount_of};

@@ -1,4 +1,6 @@
 // The plan of a refused step, and what refuses a pass of a decoded instruction: the last rows of the order of the answers.
+#![tactic(auto)]
+
 ghost use Rattle.std.specs.Prelude.{◌≡◌, not, ◌&&◌, ◌||◌};
 ghost use Rattle.board.specs.Regions.{program_present};
 ghost use Rattle.board.specs.Slices.{port_spent};

@@ -1,4 +1,6 @@
 // Which data and program addresses are on the board. A data address has 32 bits, as `address_of` gives it; PC has 16.
+#![tactic(auto)]
+
 ghost use Rattle.std.specs.Prelude.{◌≡◌};
 ghost use Rattle.board.specs.Regions.{present, on_chip_region, access_outside, data_region, on_chip, move_allowed, in_rom, in_program_b0, program_present};
 

@@ -1,4 +1,6 @@
 // Sums of 16-bit registers.
+#![tactic(auto)]
+
 ghost use Rattle.std.specs.Prelude.{◌≡◌};
 ghost use Rattle.alu.specs.Registers.{wrapped_sum, wrapped_difference, reversed_sum, reversed_difference};
 

@@ -1,3 +1,5 @@
+#![tactic(auto)]
+
 // The program `replay`: reads one run file from standard input and prints its line. Only reading and writing are assumed.
 const STDIN: i32 = 0;
 

@@ -1,4 +1,6 @@
 // From the bytes of a run file to its line: all of `replay` but reading and writing.
+#![tactic(auto)]
+
 ghost use Rattle.std.specs.Prelude.{◌≡◌, true, ◌++◌, ◌≤◌, length, take, drop};
 ghost use Rattle.answers.specs.Numbers.{is_done};
 ghost use Rattle.runfile.specs.Files.{read_answer, read_contents};

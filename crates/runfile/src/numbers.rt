@@ -13,7 +13,7 @@ const DATA_WORDS_MAX: usize = 3072;
 const INPUT_WORDS_MAX: usize = 1024;
 
 // The numbers that a file begins with, in their order.
-#[derive(Drop)]
+#[derive(Clone, Copy)]
 pub struct EightNumbers {
     pub version: u16,
     pub program_count: u16,

@@ -7,7 +7,7 @@ use crate::numbers::{HEAD_BYTES, VERSION};
 use answers::Answer;
 
 // How many words each of a file's lists has, and its budget.
-#[derive(Drop)]
+#[derive(Clone, Copy)]
 pub struct Head {
     pub program_count: u16,
     pub data_count: u16,

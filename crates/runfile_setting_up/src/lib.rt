@@ -1,4 +1,6 @@
 // Setting up lent memories and an input slice from a run file.
+#![tactic(auto)]
+
 ghost use Rattle.std.specs.Prelude.{◌≡◌, ◌+◌, ◌*◌, ◌≤◌, length};
 ghost use Rattle.std.proofs.lemmas.List.Edits.{sets};
 ghost use Rattle.runfile.specs.Files.{words_at, sections_of};

@@ -1,4 +1,6 @@
 // The operand of ADD, SUB and LAC, what SACL and SACH store, SFL and SFR.
+#![tactic(auto)]
+
 ghost use Rattle.std.specs.Prelude.{◌≡◌, ◌*◌, ◌%◌, ◌^◌};
 ghost use Rattle.alu.specs.Shifts.{operand, unsigned_operand, stored_low, stored_high, left_by_one, right_by_one};
 

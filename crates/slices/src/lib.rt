@@ -1,4 +1,6 @@
 // The lent slices: their sizes, words and parts read from them, stores into them.
+#![tactic(auto)]
+
 ghost use Rattle.std.specs.Prelude.{◌≡◌, min, length, get_or, set, replicate};
 ghost use Rattle.std.proofs.Math.Seq.{slice};
 ghost use Rattle.board.specs.Slices.{memories_fit, port_fits, port_spent, slices_fit, part_start, data_page_stored};

@@ -1,9 +1,11 @@
 // A pass, a step and a run as definitions, in specs/ alone: the functions that do them stand above. Here are only the types of a store, of what is counted in external RAM, and of a plan.
+#![tactic(auto)]
+
 use answers::Answer;
 use machine::Machine;
 
 // The one store of a step. An address is that of document 01, before it is known to be on the board.
-#[derive(Drop)]
+#[derive(Clone, Copy)]
 pub enum Write {
     Nothing,
     Data(u32, u16),
@@ -11,13 +13,13 @@ pub enum Write {
 }
 
 // Data reads from external RAM, and data writes to it (document 02, request 7).
-#[derive(Drop)]
+#[derive(Clone, Copy)]
 pub struct Outside {
     pub reads: u16,
     pub writes: u16,
 }
 
-#[derive(Drop)]
+#[derive(Clone, Copy)]
 pub struct Plan {
     pub m: Machine,
     pub answer: Answer,

@@ -1,4 +1,6 @@
 // The one store of a step, from what a page's rule leaves to be stored.
+#![tactic(auto)]
+
 ghost use Rattle.std.specs.Prelude.{◌≡◌};
 ghost use Rattle.steps.specs.Stores.{write_of};
 

@@ -1,4 +1,6 @@
 // A summary of the stores into the data slice, by data page (document 02, request 12): what a step adds to it, and a fresh one.
+#![tactic(auto)]
+
 ghost use Rattle.std.specs.Prelude.{◌≡◌, ◌+◌, min};
 ghost use Rattle.steps.specs.Summary.{summary_fits, summary_answer, reset_summary, word_counted, store_counted};
 

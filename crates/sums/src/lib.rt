@@ -1,4 +1,6 @@
 // Sums and differences of the accumulator, and those that follow their own pages: ADDH, SUBH, SUBC, NEG and ABS.
+#![tactic(auto)]
+
 ghost use Rattle.std.specs.Prelude.{◌≡◌, cond, ◌<◌, ◌^◌};
 ghost use Rattle.alu.specs.PageSums.{added_high, subtracted_high, subtracted_conditionally, negated, absolute, in_high_half};
 ghost use Rattle.alu.specs.Sums.{added, subtracted, settled};

@@ -1,4 +1,6 @@
 // What each page says of its instruction besides its rule.
+#![tactic(auto)]
+
 ghost use Rattle.std.specs.Prelude.{◌≡◌};
 ghost use Rattle.pages.specs.Traits.{plain, constant, reading, writing, modifying, counting, tabled, branching, taking, sending, accumulator_traits, multiplier_traits, auxiliary_traits, branches_traits, transfers_traits, modes_traits, traits_of};
 

@@ -1,4 +1,6 @@
 // The pages of DMOV, IN and OUT, by value.
+#![tactic(auto)]
+
 ghost use Rattle.std.specs.Prelude.{◌≡◌};
 ghost use Rattle.pages.specs.TransfersPages.{DMOV, IN, OUT};
 ghost use Rattle.pages.specs.TransfersRule.{transfers_rule};

@@ -1,4 +1,6 @@
 // What is shown of the lent slices: the fetch window and the words sent.
+#![tactic(auto)]
+
 ghost use Rattle.std.specs.Prelude.{◌≡◌};
 ghost use Rattle.board.specs.Windows.{window_of, window_start, window_answer, window_shown, window_shown_start, words_sent_answer, words_sent};
 
