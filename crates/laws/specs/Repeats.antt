@@ -31,7 +31,7 @@ use Rattle.instructions.specs.declared.Transfers.{Transfers}
 use Rattle.instructions.specs.declared.Transfers.TheVariants as Transfers
 use Rattle.pages.specs.TransfersRule.{transfers_rule}
 use Rattle.pages.specs.AccumulatorPages.{ADD, SUB, LAC, ADDH, ADDS, SUBH, SUBS, SUBC, ZALH, ZALS, AND, OR, XOR, SACL, SACH, LACK, ADDK, SUBK, CMPL, NEG, ABS, SFL, SFR}
-use Rattle.pages.specs.MultiplierPages.{table_address, Lt, LTA, LTP, LTD, LTS, MPY, MPYA, MPYS, MPYK, SQRA, SQRS, MAC, MACD, PAC, APAC, SPAC, SPL, SPH, SPM}
+use Rattle.pages.specs.MultiplierPages.{table_address, LT, LTA, LTP, LTD, LTS, MPY, MPYA, MPYS, MPYK, SQRA, SQRS, MAC, MACD, PAC, APAC, SPAC, SPL, SPH, SPM}
 use Rattle.pages.specs.AuxiliaryPages.{LAR, SAR, LARK, MAR, ADRK, SBRK, LDP, LDPK}
 use Rattle.pages.specs.ModesPages.{SOVM, ROVM, SSXM, RSXM, CNFD, CNFP, RPT, RPTK, PUSH, POP}
 use Rattle.pages.specs.TransfersPages.{DMOV, IN, OUT}
@@ -101,7 +101,7 @@ accumulator_counted Accumulator.Sfr m w n pc h = refl
 
 multiplier_counted : (i : Multiplier) (m : Machine) (w table at : ℕ) (n pc : ℕ) → (multiplier_traits i).repeatable ≡ true
     → multiplier_rule i (counted_at m n pc) w table at ≡ uncounted (multiplier_rule i m w table at) n pc
-unfolding multiplier_traits multiplier_rule Lt LTA LTP LTD LTS MPY MPYA MPYS MPYK SQRA SQRS MAC MACD PAC APAC SPAC SPL SPH SPM
+unfolding multiplier_traits multiplier_rule LT LTA LTP LTD LTS MPY MPYA MPYS MPYK SQRA SQRS MAC MACD PAC APAC SPAC SPL SPH SPM
 multiplier_counted (Multiplier.Lt a) m w table at n pc h = refl
 multiplier_counted (Multiplier.Lta a) m w table at n pc h = refl
 multiplier_counted (Multiplier.Ltp a) m w table at n pc h = refl

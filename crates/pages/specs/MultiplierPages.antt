@@ -21,8 +21,8 @@ unfoldable pub SPAC : Machine → Machine
 SPAC m = with_sum m (subtracted m.acc (shifted_product m.p m.pm) m.ov m.ovm)
 
 -- "(dma) -> T register", and what the page does with the product that was in P
-unfoldable pub Lt : ℕ → Machine → Machine
-Lt w m = with_t m w
+unfoldable pub LT : ℕ → Machine → Machine
+LT w m = with_t m w
 
 unfoldable pub LTA : ℕ → Machine → Machine
 LTA w m = with_t (APAC m) w

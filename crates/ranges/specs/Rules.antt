@@ -14,7 +14,7 @@ use Rattle.pages.specs.AccumulatorPages.{with_shifted, ADD, SUB, LAC, ADDH, ADDS
 use Rattle.instructions.specs.declared.Multiplier.{Multiplier}
 use Rattle.instructions.specs.declared.Multiplier.TheVariants as Multiplier
 use Rattle.pages.specs.MultiplierRule.{multiplier_rule}
-use Rattle.pages.specs.MultiplierPages.{Lt, LTA, LTP, LTD, LTS, MPY, MPYA, MPYS, MPYK, SQRA, SQRS, MAC, MACD, PAC, APAC, SPAC, SPL, SPH, SPM}
+use Rattle.pages.specs.MultiplierPages.{LT, LTA, LTP, LTD, LTS, MPY, MPYA, MPYS, MPYK, SQRA, SQRS, MAC, MACD, PAC, APAC, SPAC, SPL, SPH, SPM}
 use Rattle.instructions.specs.declared.Auxiliary.{Auxiliary}
 use Rattle.instructions.specs.declared.Auxiliary.TheVariants as Auxiliary
 use Rattle.pages.specs.AuxiliaryRule.{auxiliary_rule}
@@ -140,7 +140,7 @@ module _ {i o : ℕ} where
   MAC_fits {m} {w} f h table at = set_cell "PFC" (set_cell "P" (set_cell "T" (APAC_fits f) h) (product_lt w table)) (sum_lt at 1)
 
   multiplier_keeps : (x : Multiplier) {m : Machine} {w : ℕ} (table at : ℕ) → Fits i o m → w < 2 ^ 16 → FieldsWithin (multiplier_fields x) → EffectFits i o (multiplier_rule x m w table at)
-  unfolding multiplier_fields multiplier_rule Lt LTA LTP LTD LTS MPY MPYA MPYS MPYK SQRA SQRS MACD SPL SPH SPM
+  unfolding multiplier_fields multiplier_rule LT LTA LTP LTD LTS MPY MPYA MPYS MPYK SQRA SQRS MACD SPL SPH SPM
   multiplier_keeps (Multiplier.Lt a) {m} {w} table at f h k = only (set_cell "T" f h)
   multiplier_keeps (Multiplier.Lta a) {m} {w} table at f h k = only (set_cell "T" (APAC_fits f) h)
   multiplier_keeps (Multiplier.Ltp a) {m} {w} table at f h k = only (set_cell "T" (PAC_fits f) h)

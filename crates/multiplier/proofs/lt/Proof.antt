@@ -1,10 +1,10 @@
-use Rattle.pages.specs.MultiplierPages.{Lt}
+use Rattle.pages.specs.MultiplierPages.{LT}
 use borrow.Author.Rules.{rules}
 use Rattle.multiplier.proofs.lt.Statement.{statement}
 use Rattle.multiplier.proofs.lt.Tie as tie
 
 returns : tie.Need-returns
-unfolding Lt
+unfolding LT
 returns c = rw c.with-t.ensures
 
 pub lt-spec : {M : Type 1} → statement M
