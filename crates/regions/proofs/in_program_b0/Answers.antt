@@ -3,15 +3,8 @@ use mathlib.Core.Bool.{and_true}
 use native.Mathlib.Omega.{arith}
 use borrow.Author.Tests.{le-leb}
 use Rattle.board.specs.Regions.{in_program_b0}
-use Rattle.regions.proofs.in_program_b0.Statement.{statement}
-use Rattle.regions.proofs.in_program_b0.Tie as tie
+use Rattle.regions.proofs.in_program_b0.Goals as goal
 
-returns : tie.Need-returns
+pub returns : goal.returns
 unfolding in_program_b0
 returns c = simp (le-leb c.args.address 0xFFFF (omega arith), and_true)
-
-pub in-program-b0-spec : {M : Type 1} → statement M
-in-program-b0-spec =
-    tie.close
-    (tie.spec
-    returns)

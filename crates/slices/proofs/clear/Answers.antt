@@ -7,15 +7,8 @@ use borrow.Author.Fill.{fill_more}
 use borrow.Author.Rules.{rules}
 use lib.ListN.{length, drop, set, replicate, length-set}
 use lib.Seq.{drop-length}
-use Rattle.slices.proofs.clear.Statement.{statement}
-use Rattle.slices.proofs.clear.Tie as tie
-
--- of n words those before i are 0
-record Cleared (n : ℕ) (words₀ words : List ℕ) (i : ℕ) : Type 0 where
-  size₀ : length words₀ ≡ n
-  size : length words ≡ n
-  reached : i ≤ n
-  so_far : words ≡ replicate i 0 ++ drop i words₀
+use Rattle.slices.proofs.clear.Invariants.{Cleared}
+use Rattle.slices.proofs.clear.Goals as goal
 
 cleared-none : {n : ℕ} (words₀ : List ℕ) → length words₀ ≡ n → Cleared n words₀ words₀ 0
 cleared-none words₀ h = record { size₀ = h; size = h; reached = omega arith; so_far = refl }
@@ -36,32 +29,11 @@ module _ {n : ℕ} {words₀ words : List ℕ} {i : ℕ} (l : Cleared n words₀
       let whole : i ≡ length words₀ = omega arith in
       l.so_far ∙ rw (whole, drop-length, ← l.size₀) (append-nil (replicate (length words₀) 0))
 
-abbrev invariant-loop : tie.invariant-loop
-invariant-loop words₀ i₀ words i = Cleared (length words₀) words₀ words i
+pub loop-i-init : goal.loop-i-init
+loop-i-init c = cleared-none _ refl
 
-abbrev decreases-loop : tie.decreases-loop
-decreases-loop words₀ i₀ words i = length words₀ - i
+pub loop-i-preserved : goal.loop-i-preserved
+loop-i-preserved c = cleared_more c.loop-i.invariant (omega (arith, c.loop-i-test.true))
 
-loop-holds : tie.Need-loop-init invariant-loop decreases-loop
-loop-holds c = cleared-none _ refl
-
-loop-again : tie.Need-loop-preserved invariant-loop decreases-loop
-loop-again c = cleared_more c.before.loop.invariant (omega (arith, c.loop-test.true))
-
-returns : tie.Need-returns invariant-loop decreases-loop
-returns c = cleared-all c.before.loop.invariant (omega (arith, c.loop-test.false))
-
-pub clear_spec : {M : Type 1} → statement M
-clear_spec =
-    tie.close
-    (tie.spec
-    invariant-loop
-    decreases-loop
-    loop-holds
-    (λ c. search rules)
-    (λ c. search rules)
-    (λ c. search rules)
-    (λ c. search rules)
-    loop-again
-    (λ c. search rules)
-    returns)
+pub returns : goal.returns
+returns c = cleared-all c.loop-i.invariant (omega (arith, c.loop-i-test.false))

@@ -1,0 +1,22 @@
+use mathlib.Core.Path.{◌≡◌, refl, ◌∙◌}
+use mathlib.Core.List.{List, ◌++◌, append-nil}
+use Prim.Native.Nat.{ℕ, ◌+◌, ◌-◌, ◌≤◌, ◌<◌}
+use native.Mathlib.Omega.{arith}
+use borrow.Author.Fill.{fill_more}
+use borrow.Author.Rules.{rules}
+use lib.ListN.{length, drop, set, replicate, length-set}
+use lib.Seq.{drop-length}
+use Rattle.slices.proofs.clear.Given as goal
+
+-- of n words those before i are 0
+pub record Cleared (n : ℕ) (words₀ words : List ℕ) (i : ℕ) : Type 0 where
+  size₀ : length words₀ ≡ n
+  size : length words ≡ n
+  reached : i ≤ n
+  so_far : words ≡ replicate i 0 ++ drop i words₀
+
+abbrev pub invariant-loop-i : goal.invariant-loop-i
+invariant-loop-i l = Cleared (length l.initial.words) l.initial.words l.words l.i
+
+abbrev pub decreases-loop-i : goal.decreases-loop-i
+decreases-loop-i l = length l.initial.words - l.i
