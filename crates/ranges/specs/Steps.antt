@@ -161,7 +161,7 @@ module _ (g : Given) (w : World) (k : WorldInRange g w) (e : (step_of g w).answe
       rw (step_world g w x c e)
       (record {
         in_range = in_range_lem _ n.ranged;
-        slices_fit_lem = rw after.output_length (fits_slices n g (data_after write w.«data») s.memories.rom_size (after.data_length ∙ s.memories.data_size) refl);
+        slices_fit = rw after.output_length (fits_slices n g (data_after write w.«data») s.memories.rom_size (after.data_length ∙ s.memories.data_size) refl);
         rom_words = k.rom_words;
         input_words = k.input_words;
         data_words = after.data_words;
