@@ -47,28 +47,24 @@ fn bnz(pma: u16, m: Machine) -> Effect
     branch(m.acc != 0, pma, m)
 }
 
-#[tactic(auto, unfolding(pages::specs::BranchesPages::BGZ))]
 fn bgz(pma: u16, m: Machine) -> Effect
     ensures { result ≡ BGZ pma m }
 {
     branch((0 < m.acc) & (m.acc < 2147483648), pma, m)
 }
 
-#[tactic(auto, unfolding(pages::specs::BranchesPages::BGEZ))]
 fn bgez(pma: u16, m: Machine) -> Effect
     ensures { result ≡ BGEZ pma m }
 {
     branch(m.acc < 2147483648, pma, m)
 }
 
-#[tactic(auto, unfolding(pages::specs::BranchesPages::BLZ))]
 fn blz(pma: u16, m: Machine) -> Effect
     ensures { result ≡ BLZ pma m }
 {
     branch(2147483648 <= m.acc, pma, m)
 }
 
-#[tactic(auto, unfolding(pages::specs::BranchesPages::BLEZ))]
 fn blez(pma: u16, m: Machine) -> Effect
     ensures { result ≡ BLEZ pma m }
 {

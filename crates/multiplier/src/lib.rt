@@ -3,7 +3,7 @@
 
 ghost use Rattle.std.specs.Prelude.{◌≡◌};
 ghost use Rattle.machine.specs.Cells.{with_p, with_t};
-ghost use Rattle.pages.specs.MultiplierPages.{Lt, LTA, LTP, LTD, LTS, MPY, MPYA, MPYS, MPYK, SQRA, SQRS, MAC, MACD, PAC, APAC, SPAC, SPL, SPH, SPM};
+ghost use Rattle.pages.specs.MultiplierPages.{LT, LTA, LTP, LTD, LTS, MPY, MPYA, MPYS, MPYK, SQRA, SQRS, MAC, MACD, PAC, APAC, SPAC, SPL, SPH, SPM};
 ghost use Rattle.pages.specs.MultiplierRule.{multiplier_rule};
 
 use instructions::Multiplier;
@@ -58,7 +58,7 @@ fn spac(m: Machine) -> Machine
 
 #[tactic(auto, unfolding(pages::specs::MultiplierPages::LT))]
 fn lt(m: Machine, w: u16) -> Machine
-    ensures { result ≡ Lt w m }
+    ensures { result ≡ LT w m }
 {
     with_t(m, w)
 }
