@@ -1,7 +1,7 @@
 // Setting up lent memories and an input slice from a run file.
 #![tactic(auto)]
 
-ghost use Rattle.std.specs.Prelude.{◌≡◌, ◌+◌, ◌*◌, ◌≤◌, length};
+ghost use Rattle.std.specs.Prelude.{◌≡◌, ◌+◌, ◌*◌, ◌≤◌, length, replicate};
 ghost use Rattle.std.proofs.lemmas.List.Edits.{sets};
 ghost use Rattle.runfile.specs.Files.{words_at, sections_of};
 ghost use Rattle.runfile_setting_up.specs.SetUp.{lent, set_up_answer, memory_with, loaded, set_up};
@@ -9,6 +9,9 @@ ghost use Rattle.runfile_setting_up.specs.SetUpFacts.{SetUpDone};
 
 use answers::Answer;
 use runfile::{numbers, reading};
+
+// The words of each of the two memories.
+const MEMORY_WORDS: usize = 4096;
 
 // "Data go to 0400h onward"
 const DATA_START: u16 = 0x400;
@@ -26,6 +29,18 @@ pub fn set_up_answer(bytes: &[u8], rom: &[u16], data: &[u16], input: &[u16]) -> 
         Answer::Done
     } else {
         Answer::SlicesUnfit
+    }
+}
+
+// Every word of a memory becomes 0.
+fn clear(memory: &mut [u16])
+    requires { length memory.old ≡ 4096 }
+    ensures { memory.new ≡ replicate 4096 0 }
+{
+    let mut address: usize = 0;
+    while address < MEMORY_WORDS {
+        memory[address] = 0;
+        address += 1;
     }
 }
 
@@ -49,7 +64,7 @@ fn fill_memory(bytes: &[u8], at: u16, count: u16, memory: &mut [u16], address: u
     requires { (at + 2 * count ≤ length bytes.now) × (address + count ≤ 4096) × (length memory.old ≡ 4096) }
     ensures { memory.new ≡ memory_with address (words_at bytes.now at count) }
 {
-    slices::clear(memory);
+    clear(memory);
     load_words(bytes, at, count, memory, address);
 }
 

@@ -1,6 +1,5 @@
 use borrow.Author.Tests.{lt-ltb, le-ltb, eq-eqb, ne_eqb}
 use Rattle.kinds.specs.Groups.{control_place, controls}
-use borrow.Author.Rules.{rules}
 use Rattle.decoder.proofs.control_of.Goals as goal
 
 pub returns-then-low-lt64 : goal.returns-then-low-lt64

@@ -1,5 +1,4 @@
 use Rattle.decoder.specs.ByTable.{decode_by}
-use borrow.Author.Rules.{rules}
 use Rattle.decoder.proofs.decode_by.Goals as goal
 
 pub returns : goal.returns

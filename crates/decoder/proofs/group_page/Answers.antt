@@ -8,7 +8,7 @@ pub returns-then-kind-eq-CONTROL : goal.returns-then-kind-eq-CONTROL
 returns-then-kind-eq-CONTROL c = rw c.if-kind-eq-CONTROL.true (c.control_of.ensures ∙ control_place_lem _ (search rules))
 
 pub returns-then-kind-eq-LONG : goal.returns-then-kind-eq-LONG
-returns-then-kind-eq-LONG c = rw c.if-kind-eq-LONG.true (c.?Long-of.ensures ∙ long_place_lem _ (search rules))
+returns-then-kind-eq-LONG c = rw c.if-kind-eq-LONG.true (c.long_of.ensures ∙ long_place_lem _ (search rules))
 
 pub returns : goal.returns
 returns c = rw (group_else _ c.if-kind-eq-CONTROL.false c.if-kind-eq-LONG.false) (c.long_of-2.ensures ∙ long_place_1 _ (search rules))

@@ -1,7 +1,6 @@
 -- Not routine: past the end of the list the definition reads 0 too.
 use mathlib.Core.Path.{sym}
 use lib.ListN.{get_or-eq_default}
-use borrow.Author.Rules.{rules}
 use Rattle.decoder.proofs.kind_of.Goals as goal
 
 pub returns : goal.returns

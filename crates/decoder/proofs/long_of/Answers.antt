@@ -1,6 +1,5 @@
 use borrow.Author.Tests.{lt-ltb, le-ltb}
 use Rattle.kinds.specs.Groups.{long_place}
-use borrow.Author.Rules.{rules}
 use Rattle.decoder.proofs.long_of.Goals as goal
 
 pub returns-then-low-ge7 : goal.returns-then-low-ge7

@@ -1,6 +1,5 @@
 -- Not routine: what the loop keeps is that places and the digits of rest are one more than the digits of n, and that rest + places is at most n + 1, so that places cannot overflow.
 use Rattle.line_digits.specs.DigitLaws.{counted_none, counted_more, counted_all}
-use Rattle.line_digits.specs.DigitLaws.{DigitsCounted}
 use native.Mathlib.Omega.{arith}
 use Rattle.line_digits.proofs.decimal_length.Goals as goal
 

@@ -1,6 +1,4 @@
-use Rattle.line_digits.specs.DigitLaws.{counted_none, counted_more, counted_all}
 use Rattle.line_digits.specs.DigitLaws.{DigitsCounted}
-use native.Mathlib.Omega.{arith}
 use Rattle.line_digits.proofs.decimal_length.Given as goal
 
 abbrev pub invariant-loop-rest : goal.invariant-loop-rest

@@ -1,6 +1,5 @@
 use borrow.Author.Tests.{lt-ltb, le-ltb}
 use Rattle.line_digits.specs.Digits.{digit_of}
-use borrow.Author.Rules.{rules}
 use Rattle.line_digits.proofs.digit.Goals as goal
 
 pub returns-then-d-lt10 : goal.returns-then-d-lt10

@@ -1,7 +1,4 @@
 -- Not routine: a run of words stored inside 4,096 zeros is zeros before it, the words, and zeros after it, as the definition has it.
-use mathlib.Core.Path.{◌∙◌, ap}
-use Prim.Native.Nat.{ℕ}
-use lib.ListN.{replicate}
 use Rattle.runfile_setting_up.specs.MemoryLaws.{memory_filled}
 use borrow.Author.Rules.{rules}
 use Rattle.runfile_setting_up.proofs.fill_memory.Statement.{statement}
@@ -11,7 +8,7 @@ returns : tie.Need-returns
 returns c =
     memory_filled _ _ _ _ _ _
     c.before.before.before.before.before.before.before.before.before.before.requires.1
-    (c.before.before.before.before.before.before.clear.ensures ∙ ap (λ (n : ℕ). replicate n 0) c.before.before.before.before.before.before.before.before.before.before.requires.2)
+    c.before.before.before.before.before.before.clear.ensures
     c.before.before.load-words.ensures
 
 pub fill-memory-spec : {M : Type 1} → statement M
