@@ -1,5 +1,5 @@
 -- Laws of a machine's cells stored in parts.
-use Rattle.std.specs.Prelude.{◌≡◌, List, ◌++◌, ℕ, ◌+◌, length}
+use Rattle.std.specs.Prelude.{◌≡◌, List, ◌++◌, ℕ, length}
 use Rattle.std.proofs.Common.{sym, ap, ◌∙◌, length-append}
 use Rattle.std.proofs.lemmas.List.Edits.{sets}
 use Rattle.basic_laws.specs.Stores.{sets_append, sets_whole}
