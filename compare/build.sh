@@ -18,6 +18,5 @@ fi
 cd "$top/compare"
 # shellcheck disable=SC2086
 "$compiler" -std=c11 -O3 -Wall -Wextra -Wconversion -Wpedantic -Werror $more \
-    -I "$top/include" main.c draw.c words.c world.c report.c results.c \
-    summary.c steps.c runs.c files.c views.c empty.c speed.c plain.c \
-    "$library" -o "$program"
+    -I "$top/include" main.c draw.c words.c world.c report.c results.c steps.c \
+    runs.c files.c views.c empty.c speed.c plain.c "$library" -o "$program"

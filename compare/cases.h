@@ -10,10 +10,7 @@ enum {
     KIND_FILE,
     KIND_VIEW,
     KIND_WORD,
-    /* Added to a kind, for what is lent to its cases. */
-    KIND_RESULTS = 16,
-    KIND_SUMMARY = 32,
-    KIND_SUMMARY_LENGTH = 48
+    KIND_RESULTS = 16 /* added to a kind, for the results lent to its cases */
 };
 
 /* Every call of the library with empty slices, lent as NULL. */

@@ -1,7 +1,7 @@
 /*
  * Self-tests of the plain interpreter. Every expected value is taken from the
  * documents: D01 (the scope paper), D02 (the change requests), G n (line n of
- * the guide), Rn, Xn or Pn (a ruling).
+ * the guide), Rn or Xn (a ruling).
  */
 #include "plain.h"
 
@@ -32,8 +32,6 @@ static uint16_t input[PLAIN_PORT_WORDS + 1];
 static uint16_t output[PLAIN_PORT_WORDS + 1];
 static size_t rom_len, data_len, input_len, output_len;
 static struct plain_external external; /* of the last step or run */
-static uint16_t numbers[PLAIN_SUMMARY + 1];
-static struct plain_summary summary;
 
 static void fresh(void)
 {
@@ -44,10 +42,8 @@ static void fresh(void)
     memset(output, 0, sizeof output);
     rom_len = PLAIN_ROM_WORDS;
     data_len = PLAIN_DATA_WORDS;
-    memset(numbers, 0, sizeof numbers);
     input_len = 4;
     output_len = 4;
-    summary = (struct plain_summary){ numbers, PLAIN_SUMMARY, 0, 0 };
 }
 
 /* Counts that a step or a run must set. */
@@ -57,32 +53,20 @@ static int step(void)
 {
     external = not_set;
     return plain_step(&m, rom, rom_len, data, data_len, input, input_len,
-                      output, output_len, &external, &summary);
+                      output, output_len, &external);
 }
 
 static int run(uint16_t budget, uint32_t *steps)
 {
     external = not_set;
     return plain_run(&m, rom, rom_len, data, data_len, input, input_len,
-                     output, output_len, budget, steps, &external, &summary);
+                     output, output_len, budget, steps, &external);
 }
 
 static void expect_external(const char *what, uint32_t reads, uint32_t writes)
 {
     expect(what, external.reads, reads);
     expect(what, external.writes, writes);
-}
-
-/* So many words stored in one page, of them with OV 1, and none elsewhere. */
-static void expect_stored(const char *what, uint32_t page, unsigned stored,
-                          unsigned clipped)
-{
-    uint16_t want[PLAIN_SUMMARY] = { 0 };
-    want[page] = (uint16_t)stored;
-    want[PLAIN_PAGES + page] = (uint16_t)clipped;
-    expect(what, numbers[page], stored);
-    expect(what, numbers[PLAIN_PAGES + page], clipped);
-    expect(what, (uint64_t)memcmp(numbers, want, sizeof want), 0);
 }
 
 /* Puts a word at PC and makes the step, which is to be done. */
@@ -105,17 +89,14 @@ static void refuses(const char *what, int want)
     static struct plain_machine machine_before;
     static uint16_t data_before[sizeof data / sizeof data[0]];
     static uint16_t output_before[sizeof output / sizeof output[0]];
-    static uint16_t numbers_before[sizeof numbers / sizeof numbers[0]];
     machine_before = m;
     memcpy(data_before, data, sizeof data);
     memcpy(output_before, output, sizeof output);
-    memcpy(numbers_before, numbers, sizeof numbers);
     expect(what, (uint64_t)step(), (uint64_t)want);
     expect_external(what, 0, 0);
     expect(what, (uint64_t)memcmp(&machine_before, &m, sizeof m), 0);
     expect(what, (uint64_t)memcmp(data_before, data, sizeof data), 0);
     expect(what, (uint64_t)memcmp(output_before, output, sizeof output), 0);
-    expect(what, (uint64_t)memcmp(numbers_before, numbers, sizeof numbers), 0);
 }
 
 static void expect_stack(const char *what, const uint32_t want[8])
@@ -771,12 +752,7 @@ static void memory_map(void)
                     data[a] = 0x1111;
                     data[a + 1] = 0x2222;
                 }
-                plain_summary_reset(numbers, PLAIN_SUMMARY);
                 expect("data map", (uint64_t)step(), (uint64_t)want);
-                uint32_t place = i == 1 ? a : a + 1; /* P2 */
-                bool made = i == 1 ? want == 0 : i == 2 && moves(cnf, a);
-                expect_stored("data map, summary",
-                              place / PLAIN_PAGE_WORDS % PLAIN_PAGES, made, 0);
                 uint32_t far = a >= 0x400 && a <= 0xFFF; /* X2: DMOV reads */
                 expect_external("data map, external", i == 1 ? 0 : far,
                                 i == 1 ? far : 0);
@@ -1614,7 +1590,6 @@ static void run_in_parts(size_t first, size_t words, uint16_t budget)
     static struct plain_machine machine;
     static uint16_t data_whole[sizeof data / sizeof data[0]];
     static uint16_t output_whole[sizeof output / sizeof output[0]];
-    static uint16_t numbers_whole[sizeof numbers / sizeof numbers[0]];
     uint32_t whole_steps, steps, more = 0;
     start_frame(words);
     int whole = run(budget, &whole_steps);
@@ -1622,7 +1597,6 @@ static void run_in_parts(size_t first, size_t words, uint16_t budget)
     machine = m;
     memcpy(data_whole, data, sizeof data);
     memcpy(output_whole, output, sizeof output);
-    memcpy(numbers_whole, numbers, sizeof numbers);
 
     start_frame(first);
     int answer = run(budget, &steps);
@@ -1639,8 +1613,6 @@ static void run_in_parts(size_t first, size_t words, uint16_t budget)
     expect("parts, data", (uint64_t)memcmp(data_whole, data, sizeof data), 0);
     expect("parts, output",
            (uint64_t)memcmp(output_whole, output, sizeof output), 0);
-    expect("parts, summary",
-           (uint64_t)memcmp(numbers_whole, numbers, sizeof numbers), 0);
 }
 
 /* On its unused budget, with the earlier words in front: the whole run. */
@@ -1748,15 +1720,14 @@ static void outside_refused(void)
  * The pages that read (dma), and those that store into it, by the Execution
  * lines of section 4.3 (G 2252 to 8540). No other page has a data word.
  */
-static const char *const writing[] = { "IN", "SACH", "SACL", "SAR", "SPH",
-    "SPL", NULL };
-
 static void outside_words(void)
 {
     static const char *const reading[] = { "ADD", "ADDH", "ADDS", "AND",
         "DMOV", "LAC", "LAR", "LDP", "LT", "LTA", "LTD", "LTP", "LTS", "MAC",
         "MACD", "MPY", "MPYA", "MPYS", "OR", "OUT", "RPT", "SQRA", "SQRS",
         "SUB", "SUBC", "SUBH", "SUBS", "XOR", "ZALH", "ZALS", NULL };
+    static const char *const writing[] = { "IN", "SACH", "SACL", "SAR", "SPH",
+        "SPL", NULL };
     fresh();
     for (uint32_t word = 0; word < 0x10000; word++)
         for (uint32_t far = 0; far <= 1; far++) {
@@ -1845,229 +1816,6 @@ static void outside_parts(void)
         expect("parts, reads", part.reads + external.reads, 6);
         expect("parts, writes", part.writes + external.writes, 6);
     }
-}
-
-/* ---- Pages that held a clipped value (D02, request 12) ------------------ */
-
-/* The word at PC is stepped with a fresh summary. */
-static void stores(const char *what, unsigned word, uint32_t page,
-                   unsigned stored, unsigned clipped)
-{
-    expect(what, (uint64_t)plain_summary_reset(numbers, PLAIN_SUMMARY), 0);
-    does(what, word);
-    expect_stored(what, page, stored, clipped);
-}
-
-/* Where a word is stored, and OV of the state after the step (P1). */
-static void summary_stores(void)
-{
-    fresh();
-    m.dp = 6;
-    stores("SACL 300h", 0x6000, 6, 1, 0);
-    stores("SACL 300h, an equal word", 0x6000, 6, 1, 0); /* P2 */
-    m.ov = 1;
-    stores("SACL 300h, OV 1", 0x6000, 6, 1, 1);
-    rom[m.pc + 1] = (uint16_t)(m.pc + 2);
-    stores("BV", 0xF080, 6, 0, 0); /* R23: OV is 0 after it */
-    stores("SACL 300h after BV", 0x6000, 6, 1, 0);
-    m.dp = 8;
-    stores("IN 400h", 0x8000, 8, 1, 0);
-    stores("OUT 400h", 0xE100, 8, 0, 0);
-    stores("LAC 400h", 0x2000, 8, 0, 0);
-    m.ov = 1;
-    m.dp = 31;
-    stores("SACH FFFh", 0x687F, 31, 1, 1);
-    stores("SAR AR0,F80h", 0x7000, 31, 1, 1);
-    m.dp = 0;
-    stores("SPL 60h", 0x7C60, 0, 1, 1);
-    stores("SPH 7Fh", 0x7D7F, 0, 1, 1);
-    m.dp = 5;
-    stores("IN 280h", 0x8000, 5, 1, 1);
-}
-
-/* A data move's copy is stored at its own place, or not made (P2, X2). */
-static void summary_moves(void)
-{
-    fresh();
-    m.dp = 6;
-    stores("DMOV 37Eh", 0x567E, 6, 1, 0);
-    stores("DMOV 37Fh", 0x567F, 7, 1, 0);
-    m.dp = 7;
-    stores("DMOV 3FFh", 0x567F, 8, 0, 0);
-    m.dp = 5;
-    stores("DMOV 2FFh", 0x567F, 6, 1, 0);
-    m.dp = 4;
-    stores("DMOV 27Fh", 0x567F, 5, 1, 0);
-    m.dp = 0;
-    stores("DMOV 7Fh", 0x567F, 1, 0, 0);
-    m.dp = 8;
-    stores("DMOV 400h", 0x5600, 8, 0, 0);
-
-    /* LTD adds P first: 7FFFFFFFh and 1 overflow in this very step. */
-    m.acc = 0x7FFFFFFF; m.p = 1;
-    stores("LTD 400h, overflow", 0x3F00, 8, 0, 0);
-    m.acc = 0x7FFFFFFF; m.ov = 0; m.dp = 6;
-    stores("LTD 300h, overflow", 0x3F00, 6, 1, 1);
-    m.acc = 0; m.ov = 0;
-    stores("LTD 300h", 0x3F00, 6, 1, 0);
-}
-
-/*
- * RPTK 3; MACD 40h,*+ from 300h: copies at 301h to 304h. With all words 7FFFh
- * each product is 3FFF0001h, and the third one added, in pass 4, overflows.
- */
-static void summary_repeat(void)
-{
-    uint32_t steps;
-    for (unsigned big = 0; big <= 1; big++) {
-        fresh();
-        rom[0] = 0xCB03; rom[1] = 0x5CA0; rom[2] = 0x0040;
-        m.arp = 1; m.ar[1] = 0x300;
-        data[0x300] = big ? 0x7FFF : 1;
-        for (int i = 0x40; i < 0x44; i++)
-            rom[i] = 0x7FFF;
-        expect("MACD, 4 passes", (uint64_t)run(5, &steps), 0);
-        expect("MACD, OV", m.ov, big);
-        expect("MACD, last copy", data[0x304], data[0x300]);
-        expect_stored("MACD, summary", 6, 4, big);
-    }
-}
-
-/* Each number stops by itself (P3); the totals go on. */
-static void summary_stops(void)
-{
-    uint32_t steps;
-    fresh();
-    m.dp = 6; m.ov = 1;
-    numbers[6] = 0xFFFF;
-    does("SACL at FFFFh", 0x6000);
-    expect_stored("SACL at FFFFh", 6, 0xFFFF, 1);
-    numbers[6] = 0xFFFE; numbers[38] = 0xFFFF;
-    does("SACL at FFFEh", 0x6000);
-    expect_stored("SACL at FFFEh", 6, 0xFFFF, 0xFFFF);
-    numbers[6] = 5;
-    does("SACL, clipped at FFFFh", 0x6000);
-    expect_stored("SACL, clipped at FFFFh", 6, 6, 0xFFFF);
-    expect("stores in all", summary.stored, 3);
-    expect("clipped in all", summary.clipped, 3);
-
-    /* SACL * in 255 repeats of 256, twice, the second time with OV 1. */
-    outside_longest(0x6080, 0, 65280);
-    expect_stored("65,280 stores", 31, 65280, 0);
-    m.pc = 0; m.ov = 1;
-    expect("as many again", (uint64_t)run(65535, &steps), 0);
-    expect_stored("130,560 stores", 31, 65535, 65280);
-    expect("stores of both", summary.stored, 130560);
-}
-
-/* SACL 300h; DMOV 37Fh; ADDK 1; SACL 301h; IN *,PA0; a word in no encoding. */
-static void start_stores(void)
-{
-    static const uint16_t program[] = { 0x6000, 0x567F, 0xCC01, 0x6001, 0x8080,
-        0x00B0 };
-    fresh();
-    memcpy(rom, program, sizeof program);
-    m.dp = 6; m.acc = 0x7FFFFFFF; m.ar[0] = 0x400;
-}
-
-/* A run in two parts, or refused after its stores, counts the same. */
-static void summary_runs(void)
-{
-    uint16_t want[PLAIN_SUMMARY] = { [6] = 2, [7] = 1, [8] = 1, [38] = 1,
-        [40] = 1 };
-    uint32_t steps;
-    for (uint16_t first = 0; first <= 5; first++) {
-        start_stores();
-        expect("first part", (uint64_t)run(first, &steps), 0);
-        expect("second part", (uint64_t)run((uint16_t)(5 - first), &steps), 0);
-        expect("parts, summary", (uint64_t)memcmp(numbers, want, sizeof want),
-               0);
-    }
-    start_stores();
-    expect("sixth refused", (uint64_t)run(9, &steps), 3);
-    expect("sixth refused, summary",
-           (uint64_t)memcmp(numbers, want, sizeof want), 0);
-    expect("refused at once", (uint64_t)run(4, &steps), 3);
-    plain_reset(&m); /* it leaves the summary (P3) */
-    expect("reset, summary", (uint64_t)memcmp(numbers, want, sizeof want), 0);
-}
-
-/* Without a summary a run is what it was. */
-static void summary_not_lent(void)
-{
-    static uint16_t data_with[sizeof data / sizeof data[0]];
-    struct plain_external outside;
-    uint32_t steps;
-    start_stores();
-    run(9, &steps);
-    struct plain_machine with = m;
-    memcpy(data_with, data, sizeof data);
-    start_stores();
-    expect("no summary", (uint64_t)plain_run(&m, rom, rom_len, data, data_len,
-        input, input_len, output, output_len, 9, &steps, &outside, NULL), 3);
-    expect("no summary, steps", steps, 5);
-    expect("no summary, external", outside.writes, external.writes);
-    expect("no summary, cells", (uint64_t)memcmp(&with, &m, sizeof m), 0);
-    expect("no summary, data",
-           (uint64_t)memcmp(data_with, data, sizeof data), 0);
-}
-
-/* 14 directly after 2, at budget 0 too (P3). */
-static void summary_lengths(void)
-{
-    static const size_t lengths[] = { 0, 1, 32, 63, 65 };
-    uint32_t steps;
-    for (size_t i = 0; i < sizeof lengths / sizeof lengths[0]; i++) {
-        start_stores();
-        for (int j = 0; j <= PLAIN_SUMMARY; j++)
-            numbers[j] = 7;
-        summary.length = lengths[i];
-        refuses("summary, step", 14);
-        expect("summary, run", (uint64_t)run(5, &steps), 14);
-        expect("summary, steps", steps, 0);
-        expect_external("summary, external", 0, 0);
-        expect("summary, budget 0", (uint64_t)run(0, &steps), 14);
-        m.pc = 0x2000;
-        refuses("14 before 5", 14);
-        rom_len = 4095;
-        refuses("2 before 14", 2);
-        expect("2 before 14, budget 0", (uint64_t)run(0, &steps), 2);
-        m.cnf = 2;
-        refuses("1 before 2 and 14", 1);
-        rom_len = 4096;
-        refuses("1 before 14", 1);
-        expect("1 before 14, budget 0", (uint64_t)run(0, &steps), 1);
-        expect("reset", (uint64_t)plain_summary_reset(numbers, lengths[i]), 14);
-        for (int j = 0; j <= PLAIN_SUMMARY; j++)
-            expect("summary, unchanged", numbers[j], 7);
-    }
-    expect("reset of 64", (uint64_t)plain_summary_reset(numbers, 64), 0);
-    expect_stored("reset of 64", 0, 0, 0);
-    expect("behind the 64", numbers[64], 7);
-}
-
-/* Every word: the pages that store, and the data moves on chip. */
-static void summary_words(void)
-{
-    static const char *const moving[] = { "DMOV", "LTD", "MACD", NULL };
-    fresh();
-    for (uint32_t word = 0; word < 0x10000; word++)
-        for (uint32_t far = 0; far <= 1; far++) {
-            const char *name = plain_name((uint16_t)word);
-            uint32_t place = far ? 0x400 : 0x300;
-            plain_reset(&m);
-            m.dp = place / 128;
-            m.ar[0] = place;
-            m.ov = word >> 8 & 1; /* no page that stores changes it here */
-            rom[0] = (uint16_t)word;
-            plain_summary_reset(numbers, PLAIN_SUMMARY);
-            bool done = step() == PLAIN_DONE;
-            bool moved = !far && listed(name, moving);
-            unsigned stored = done && (moved || listed(name, writing));
-            place += (word & 0x80 ? 0 : word & 0x7F) + moved;
-            expect_stored("every word, summary", place / 128, stored,
-                          stored & m.ov);
-        }
 }
 
 /* SOVM (G 7172), ROVM (R6), SSXM (G 7614), RSXM (G 6639), CNFD, CNFP. */
@@ -2191,17 +1939,6 @@ static uint32_t random_bits(void)
     return (uint32_t)(state >> 33);
 }
 
-/* A page with a changed word is counted, by OV after the step (P1). */
-static void expect_changes_counted(const uint16_t *before)
-{
-    for (int page = 0; page < PLAIN_PAGES; page++) {
-        size_t first = (size_t)page * PLAIN_PAGE_WORDS;
-        if (memcmp(before + first, data + first, 2 * PLAIN_PAGE_WORDS) == 0)
-            continue;
-        expect_stored("random: summary", (uint32_t)page, 1, m.ov);
-    }
-}
-
 static void random_worlds(void)
 {
     static uint16_t before[sizeof data / sizeof data[0]];
@@ -2239,10 +1976,8 @@ static void random_worlds(void)
             uint32_t steps;
             memcpy(before, data, sizeof data);
             memcpy(output_before, output, sizeof output);
-            plain_summary_reset(numbers, PLAIN_SUMMARY);
             if (step() == PLAIN_DONE) {
                 done++;
-                expect_changes_counted(before);
                 expect("random: external",
                        external.reads <= 1 && external.writes <= 1, 1);
                 expect("random: in range", (uint64_t)run(0, &steps), 0);
@@ -2253,7 +1988,6 @@ static void random_worlds(void)
                 continue;
             }
             expect_external("random: refused, external", 0, 0);
-            expect_stored("random: refused, summary", 0, 0, 0);
             expect("random: refused, cells",
                    (uint64_t)memcmp(&machine_before, &m, sizeof m), 0);
             expect("random: refused, data",
@@ -2473,14 +2207,6 @@ int main(void)
     outside_longest(0x2080, 65280, 0); /* LAC * */
     outside_longest(0x6080, 0, 65280); /* SACL * */
     outside_parts();
-    summary_stores();
-    summary_moves();
-    summary_repeat();
-    summary_stops();
-    summary_runs();
-    summary_not_lent();
-    summary_lengths();
-    summary_words();
     modes();
     fields();
     shifted_products();

@@ -21,12 +21,10 @@ static void expect(const char *call, uint64_t want, uint64_t got)
 enum { OTHER = 77 };
 
 static uint32_t results[CROWMITTEN_RESULTS];
-static uint16_t summary[CROWMITTEN_SUMMARY];
 
-/* A run with results and a summary, of slices that may be empty. */
+/* A run with results, of cells that may be empty and of these lengths. */
 static uint32_t run_with(size_t cells_length, size_t memory_length,
-                         size_t summary_length, uint16_t budget,
-                         size_t results_length)
+                         uint16_t budget, size_t results_length)
 {
     bool lent = memory_length > 0;
     for (int i = 0; i < CROWMITTEN_RESULTS; i++)
@@ -34,17 +32,9 @@ static uint32_t run_with(size_t cells_length, size_t memory_length,
     return crowmitten_run_with(cells_length > 0 ? cells : NULL, cells_length,
                                lent ? rom : NULL, memory_length,
                                lent ? data : NULL, memory_length, NULL, 0,
-                               NULL, 0, summary_length > 0 ? summary : NULL,
-                               summary_length, budget,
+                               NULL, 0, budget,
                                results_length > 0 ? results : NULL,
                                results_length);
-}
-
-/* The same with cells, memories and a summary that are not empty. */
-static uint32_t run_lent(uint16_t budget, size_t results_length)
-{
-    return run_with(CROWMITTEN_CELLS, CROWMITTEN_MEMORY_WORDS,
-                    CROWMITTEN_SUMMARY, budget, results_length);
 }
 
 static void expect_results(uint32_t steps, uint32_t reads, uint32_t writes)
@@ -52,14 +42,6 @@ static void expect_results(uint32_t steps, uint32_t reads, uint32_t writes)
     expect("results, steps", steps, results[CROWMITTEN_STEPS]);
     expect("results, reads", reads, results[CROWMITTEN_READS]);
     expect("results, writes", writes, results[CROWMITTEN_WRITES]);
-}
-
-/* This many words stored, all in one page and without OV. */
-static void expect_stored(uint32_t page, uint32_t words)
-{
-    for (uint32_t i = 0; i < CROWMITTEN_SUMMARY; i++)
-        expect("summary", i == CROWMITTEN_STORED + page ? words : 0,
-               summary[i]);
 }
 
 static void empty_cells(void)
@@ -75,9 +57,9 @@ static void empty_cells(void)
                                           &memory, &from, &count));
     expect("words sent", 2, crowmitten_words_sent(NULL, 0, NULL, 0, &sent));
     expect("counts", 0, steps + memory + from + count + sent);
-    expect("run with", 2, run_with(0, 0, 0, 1, CROWMITTEN_RESULTS));
+    expect("run with", 2, run_with(0, 0, 1, CROWMITTEN_RESULTS));
     expect_results(0, 0, 0);
-    expect("run with, no results", 2, run_with(0, 0, 0, 1, 0));
+    expect("run with, no results", 2, run_with(0, 0, 1, 0));
 }
 
 static void empty_memories(void)
@@ -92,33 +74,8 @@ static void empty_memories(void)
     expect("window", 2, crowmitten_window(cells, CROWMITTEN_CELLS, NULL, 0,
                                           NULL, 0, 0, &memory, &from, &count));
     expect("counts", 0, steps + memory + from + count);
-    expect("run with", 2, run_with(CROWMITTEN_CELLS, 0, 0, 1,
-                                   CROWMITTEN_RESULTS));
+    expect("run with", 2, run_with(CROWMITTEN_CELLS, 0, 1, CROWMITTEN_RESULTS));
     expect_results(0, 0, 0);
-}
-
-/* 14 goes after 1, and before any step (D02, request 12). */
-static void empty_summary(void)
-{
-    crowmitten_reset(cells, CROWMITTEN_CELLS);
-    rom[0] = 0x6060; /* SACL 60h */
-    data[0x60] = OTHER;
-    for (uint16_t budget = 0; budget <= 1; budget++) {
-        expect("run with, no summary", 14,
-               run_with(CROWMITTEN_CELLS, CROWMITTEN_MEMORY_WORDS, 0, budget,
-                        CROWMITTEN_RESULTS));
-        expect_results(0, 0, 0);
-    }
-    expect("PC after no summary", 0, cells[CROWMITTEN_PC]);
-    expect("word after no summary", OTHER, data[0x60]);
-    expect("run with, neither", 2,
-           run_with(CROWMITTEN_CELLS, CROWMITTEN_MEMORY_WORDS, 0, 1, 0));
-    cells[CROWMITTEN_ARP] = 8;
-    expect("run with, no summary", 1,
-           run_with(CROWMITTEN_CELLS, CROWMITTEN_MEMORY_WORDS, 0, 1,
-                    CROWMITTEN_RESULTS));
-    expect_results(0, 0, 0);
-    expect("summary reset", 14, crowmitten_summary_reset(NULL, 0));
 }
 
 /* 2 for the results goes before 1, and before any step. */
@@ -126,11 +83,14 @@ static void empty_results(void)
 {
     crowmitten_reset(cells, CROWMITTEN_CELLS);
     rom[0] = 0x5500; /* NOP */
-    expect("run with, no results", 2, run_lent(1, 0));
+    expect("run with, no results", 2, run_with(CROWMITTEN_CELLS,
+                                               CROWMITTEN_MEMORY_WORDS, 1, 0));
     expect("PC after no results", 0, cells[CROWMITTEN_PC]);
     cells[CROWMITTEN_ARP] = 8;
-    expect("run with, no results", 2, run_lent(0, 0));
-    expect("run with", 1, run_lent(0, CROWMITTEN_RESULTS));
+    expect("run with, no results", 2, run_with(CROWMITTEN_CELLS,
+                                               CROWMITTEN_MEMORY_WORDS, 0, 0));
+    expect("run with", 1, run_with(CROWMITTEN_CELLS, CROWMITTEN_MEMORY_WORDS, 0,
+                                   CROWMITTEN_RESULTS));
     expect_results(0, 0, 0);
 }
 
@@ -150,9 +110,9 @@ static void empty_input(void)
                                      CROWMITTEN_MEMORY_WORDS, NULL, 0, NULL, 0,
                                      2, &steps));
     expect("steps", 0, steps);
-    expect("run with", 11, run_lent(2, CROWMITTEN_RESULTS));
+    expect("run with", 11, run_with(CROWMITTEN_CELLS, CROWMITTEN_MEMORY_WORDS,
+                                    2, CROWMITTEN_RESULTS));
     expect_results(0, 0, 0);
-    expect_stored(0, 0);
     expect("word of a dry port", OTHER, data[0x60]);
     expect("PC at a dry port", 0, cells[CROWMITTEN_PC]);
     expect("cursor of a dry port", 0, cells[CROWMITTEN_INPUT_CURSOR]);
@@ -173,12 +133,9 @@ static void empty_output(void)
                                      3, &steps));
     expect("steps", 2, steps);
     crowmitten_reset(cells, CROWMITTEN_CELLS);
-    expect("run with", 10, run_lent(3, CROWMITTEN_RESULTS));
+    expect("run with", 10, run_with(CROWMITTEN_CELLS, CROWMITTEN_MEMORY_WORDS,
+                                    3, CROWMITTEN_RESULTS));
     expect_results(2, 0, 1);
-    expect_stored(8, 1);
-    expect("summary reset", 0, crowmitten_summary_reset(summary,
-                                                        CROWMITTEN_SUMMARY));
-    expect_stored(8, 0);
     expect("words sent", 0, crowmitten_words_sent(cells, CROWMITTEN_CELLS,
                                                   NULL, 0, &sent));
     expect("count", 0, sent);
@@ -208,10 +165,9 @@ void compare_empty(void)
 {
     empty_cells();
     empty_memories();
-    empty_summary();
     empty_results();
     empty_input();
     empty_output();
     empty_files();
-    printf("empty slices: each of the ten calls, with NULL\n");
+    printf("empty slices: each of the nine calls, with NULL\n");
 }

@@ -7,7 +7,6 @@
 #include "cases.h"
 #include "report.h"
 #include "results.h"
-#include "summary.h"
 #include "words.h"
 
 #include <inttypes.h>
@@ -32,7 +31,6 @@ static int compare_all(uint64_t cases, uint64_t seed)
     compare_steps(seed, cases);
     compare_runs(seed, cases / 50);
     print_results();
-    print_summaries();
     compare_files(seed, cases / 50);
     compare_views(seed, cases / 50);
     if (!wide_untouched() && report_difference("all cases, up to", seed, cases))

@@ -293,7 +293,6 @@ struct board {
     size_t input_len;
     uint16_t *output;
     size_t output_len;
-    struct plain_summary *summary; /* NULL where none is lent */
 };
 
 /* Check 2 (D01); a cursor equal to its slice's length is fine (R14). */
@@ -304,18 +303,6 @@ static bool slices_right(const struct plain_machine *m, const struct board *b)
         && b->output_len <= PLAIN_PORT_WORDS
         && m->input_cursor <= b->input_len
         && m->output_cursor <= b->output_len;
-}
-
-/* Checks 1 and 2 (D01), directly after them 14 (D02, request 12). */
-static int unfit(const struct plain_machine *m, const struct board *b)
-{
-    if (!cells_in_range(m))
-        return PLAIN_CELL_OUT_OF_RANGE;
-    if (!slices_right(m, b))
-        return PLAIN_SLICE_WRONG;
-    if (b->summary != NULL && b->summary->length != PLAIN_SUMMARY)
-        return PLAIN_SUMMARY_WRONG;
-    return PLAIN_DONE;
 }
 
 /*
@@ -549,8 +536,6 @@ struct pass {
     uint32_t table_address; /* MAC, MACD */
     uint32_t table_word;
     struct plain_external external; /* the accesses made so far */
-    bool wrote;             /* a data word; no page writes two */
-    uint32_t written;       /* its place in the data slice */
 };
 
 /*
@@ -571,17 +556,16 @@ static void store_word(const struct board *b, struct pass *pass,
     if (outside(address))
         pass->external.writes++;
     b->data[address] = (uint16_t)(value & 0xFFFF);
-    pass->wrote = true;
-    pass->written = address;
 }
 
-/* D01 and D02, 8 retired: 1, 2, 14, 5, 3, 4, 7, 5, 9, 6, 11, 5, 10. */
+/* The order of D01 and D02, 8 retired: 1, 2, 5, 3, 4, 7, 5, 9, 6, 11, 5, 10. */
 static int refused(const struct plain_machine *m, const struct board *b,
                    struct pass *pass)
 {
-    int answer = unfit(m, b);
-    if (answer != PLAIN_DONE)
-        return answer;
+    if (!cells_in_range(m))
+        return PLAIN_CELL_OUT_OF_RANGE;
+    if (!slices_right(m, b))
+        return PLAIN_SLICE_WRONG;
 
     *pass = (struct pass){ 0 };
     if (!fetch(m, b, m->pc, &pass->word))
@@ -960,38 +944,6 @@ static uint32_t perform(struct plain_machine *m,
     return next;
 }
 
-/* ---- The summary (D02, request 12) -------------------------------------- */
-
-int plain_summary_reset(uint16_t *numbers, size_t length)
-{
-    if (length != PLAIN_SUMMARY)
-        return PLAIN_SUMMARY_WRONG;
-    for (size_t i = 0; i < length; i++)
-        numbers[i] = 0;
-    return PLAIN_DONE;
-}
-
-/* Each number stops at 65,535 by itself (P3). */
-static void count_up(uint16_t *number)
-{
-    if (*number < 65535)
-        (*number)++;
-}
-
-/* A word stored at its page, and OV as the step leaves it (P1, P2). */
-static void count_store(struct plain_summary *summary, uint32_t page,
-                        uint32_t ov)
-{
-    summary->stored++;
-    count_up(&summary->numbers[page]);
-    if (ov == 1) {
-        summary->clipped++;
-        count_up(&summary->numbers[PLAIN_PAGES + page]);
-    }
-}
-
-/* ---- Steps and runs ----------------------------------------------------- */
-
 /* D01, "Steps, repeats and runs". What the pass counts is added to *total. */
 static int step(struct plain_machine *m, const struct board *b,
                 struct plain_external *total)
@@ -1017,8 +969,6 @@ static int step(struct plain_machine *m, const struct board *b,
     }
     total->reads += pass.external.reads;
     total->writes += pass.external.writes;
-    if (pass.wrote && b->summary != NULL)
-        count_store(b->summary, pass.written / PLAIN_PAGE_WORDS, m->ov);
     return PLAIN_DONE;
 }
 
@@ -1027,10 +977,10 @@ int plain_step(struct plain_machine *machine,
                uint16_t *data, size_t data_len,
                const uint16_t *input, size_t input_len,
                uint16_t *output, size_t output_len,
-               struct plain_external *external, struct plain_summary *summary)
+               struct plain_external *external)
 {
-    const struct board board = { rom, rom_len, data, data_len, input, input_len,
-                                 output, output_len, summary };
+    const struct board board = { rom, rom_len, data, data_len,
+                                 input, input_len, output, output_len };
     *external = (struct plain_external){ 0, 0 };
     return step(machine, &board, external);
 }
@@ -1041,20 +991,24 @@ int plain_run(struct plain_machine *machine,
               const uint16_t *input, size_t input_len,
               uint16_t *output, size_t output_len,
               uint16_t budget, uint32_t *steps,
-              struct plain_external *external, struct plain_summary *summary)
+              struct plain_external *external)
 {
-    const struct board board = { rom, rom_len, data, data_len, input, input_len,
-                                 output, output_len, summary };
+    const struct board board = { rom, rom_len, data, data_len,
+                                 input, input_len, output, output_len };
     *steps = 0;
     *external = (struct plain_external){ 0, 0 };
-    /* Budget 0 makes these checks only (D01, P3). */
-    int answer = unfit(machine, &board);
-    while (answer == PLAIN_DONE && *steps < budget) {
-        answer = step(machine, &board, external);
-        if (answer == PLAIN_DONE)
-            (*steps)++;
+    /* Budget 0 makes checks 1 and 2 only. */
+    if (!cells_in_range(machine))
+        return PLAIN_CELL_OUT_OF_RANGE;
+    if (!slices_right(machine, &board))
+        return PLAIN_SLICE_WRONG;
+    while (*steps < budget) {
+        int answer = step(machine, &board, external);
+        if (answer != PLAIN_DONE)
+            return answer;
+        (*steps)++;
     }
-    return answer;
+    return PLAIN_DONE;
 }
 
 /* ---- Run files (D01, "The run file and its one line") ------------------- */
@@ -1224,7 +1178,7 @@ void plain_replay(const uint8_t *bytes, size_t length,
     plain_reset(&m);
     answer = plain_run(&m, rom, PLAIN_ROM_WORDS, data, PLAIN_DATA_WORDS,
                        input, contents.input_count, output, PLAIN_PORT_WORDS,
-                       contents.budget, &steps, &external, NULL);
+                       contents.budget, &steps, &external);
 
     int at = snprintf(line, PLAIN_LINE_ROOM, "%d %u %04X %08X %u", answer,
                       (unsigned)steps, (unsigned)m.pc, (unsigned)m.acc,

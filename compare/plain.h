@@ -3,7 +3,7 @@
  * documents alone. It is the second opinion on the proved emulator.
  *
  * "D01" is the scope paper, "D02" the change requests, "G n" line n of the
- * guide's text (document 003), "Rn", "Xn" or "Pn" a ruling on an open point.
+ * guide's text (document 003), "Rn" or "Xn" a ruling on an open point.
  */
 #ifndef PLAIN_H
 #define PLAIN_H
@@ -17,9 +17,6 @@ enum {
     PLAIN_DATA_WORDS = 4096,
     PLAIN_PORT_WORDS = 1024,
     PLAIN_STACK_WORDS = 8,
-    PLAIN_PAGE_WORDS = 128,
-    PLAIN_PAGES = PLAIN_DATA_WORDS / PLAIN_PAGE_WORDS,
-    PLAIN_SUMMARY = 2 * PLAIN_PAGES, /* D02, request 12 */
     PLAIN_FILE_HEADER = 16,
     PLAIN_FILE_PROGRAM = 4096,
     PLAIN_FILE_DATA = 3072,
@@ -30,7 +27,7 @@ enum {
     PLAIN_LINE_ROOM = 64 + 5 * PLAIN_PORT_WORDS
 };
 
-/* Numbers that come back (D01). D02 adds 11 (request 2), 14 (12), retires 8. */
+/* Numbers that come back (D01). D02 adds 11 (request 2), retires 8 (10). */
 enum {
     PLAIN_DONE = 0,
     PLAIN_CELL_OUT_OF_RANGE = 1,
@@ -43,7 +40,6 @@ enum {
     PLAIN_WRONG_PORT = 9,
     PLAIN_OUTPUT_FULL = 10,
     PLAIN_INPUT_DRY = 11,
-    PLAIN_SUMMARY_WRONG = 14,
     PLAIN_FILE_SHORT = 20,
     PLAIN_FILE_VERSION = 21,
     PLAIN_FILE_RULES = 22,
@@ -91,36 +87,19 @@ struct plain_external {
 };
 
 /*
- * A lent summary of the stores by data page (D02, request 12): numbers 0 to 31
- * count the words stored, 32 to 63 those stored by steps that leave OV at 1.
- * The totals go on where a number stops, so that this can be seen.
- */
-struct plain_summary {
-    uint16_t *numbers;
-    size_t length;
-    uint32_t stored;
-    uint32_t clipped;
-};
-
-/* A fresh summary: 0, or 14 for one that is not of 64 numbers. */
-int plain_summary_reset(uint16_t *numbers, size_t length);
-
-/*
  * One pass. Gives 0, or the number of a refusal that changed nothing;
- * *external is what the pass counts, nothing where it is refused. `summary` is
- * NULL where none is lent.
+ * *external is what the pass counts, nothing where it is refused.
  */
 int plain_step(struct plain_machine *machine,
                const uint16_t *rom, size_t rom_len,
                uint16_t *data, size_t data_len,
                const uint16_t *input, size_t input_len,
                uint16_t *output, size_t output_len,
-               struct plain_external *external,
-               struct plain_summary *summary);
+               struct plain_external *external);
 
 /*
  * At most `budget` steps; *steps is the count of the steps done, *external
- * the totals over them. Their stores are counted on top of what `summary` has.
+ * the totals over them.
  */
 int plain_run(struct plain_machine *machine,
               const uint16_t *rom, size_t rom_len,
@@ -128,8 +107,7 @@ int plain_run(struct plain_machine *machine,
               const uint16_t *input, size_t input_len,
               uint16_t *output, size_t output_len,
               uint16_t budget, uint32_t *steps,
-              struct plain_external *external,
-              struct plain_summary *summary);
+              struct plain_external *external);
 
 /* The fetch window at a program address: 0, 1, 2 or 5; empty when refused. */
 int plain_window(const struct plain_machine *machine,

@@ -50,9 +50,9 @@ void report_cells(const char *what, const uint32_t *cells)
 
 void report_lengths(const struct world *w)
 {
-    printf("  lengths: cells %zu, rom %zu, data %zu, input %zu, output %zu, "
-           "summary %zu\n", w->cells_length, w->rom_length, w->data_length,
-           w->input_length, w->output_length, w->summary_length);
+    printf("  lengths: cells %zu, rom %zu, data %zu, input %zu, output %zu\n",
+           w->cells_length, w->rom_length, w->data_length, w->input_length,
+           w->output_length);
 }
 
 void report_words(const char *what, const uint16_t *plain,
@@ -75,9 +75,8 @@ void report_outcomes(const struct outcomes *out)
     const struct outcome *a = &out->plain;
     const struct outcome *c = &out->counted;
     printf("  plain's answer %" PRIu32 ", steps %" PRIu32 ", external reads %"
-           PRIu32 ", writes %" PRIu32 ", stored %" PRIu32 ", with OV 1 %" PRIu32
-           "\n", a->answer, a->steps, a->reads, a->writes, a->stored,
-           a->clipped);
+           PRIu32 ", writes %" PRIu32 "\n", a->answer, a->steps, a->reads,
+           a->writes);
     report_number("answer", a->answer, out->proved.answer);
     report_number("steps", a->steps, out->proved.steps);
     report_number("run_with: answer", a->answer, c->answer);
@@ -113,7 +112,6 @@ void report_counted(const struct world *w)
     report_changed_cells("run_with: ", a->cells, c->cells);
     report_words("run_with: data", a->data, c->data, MEMORY_ROOM);
     report_words("run_with: output", a->output, c->output, PORT_ROOM);
-    report_words("run_with: summary", a->summary, c->summary, SUMMARY_ROOM);
 }
 
 int report_end(void)

@@ -2,7 +2,6 @@
 
 #include "cases.h"
 #include "report.h"
-#include "summary.h"
 
 #include <inttypes.h>
 #include <stdio.h>
@@ -13,7 +12,6 @@ enum { LENGTHS = sizeof wrong_lengths / sizeof wrong_lengths[0] };
 
 /* By length, in a good world [0] and in a spoilt one [1]. */
 static uint64_t refused[LENGTHS][2];
-static uint64_t with_summary; /* of those, lent a summary of a wrong length */
 
 void results_case(struct world *w, bool spoilt, uint16_t budget,
                   uint64_t kind, uint64_t seed, uint64_t number)
@@ -23,14 +21,11 @@ void results_case(struct world *w, bool spoilt, uint16_t budget,
         return;
     uint32_t which = draw_below(&d, LENGTHS);
     refused[which][spoilt]++;
-    if (draw_percent(&d, 50)) {
-        w->summary_length = draw_wrong_summary(&d);
-        with_summary++;
-    }
-    bool good = results_refused(w, budget, wrong_lengths[which]);
-    if (!good && report_difference(kind == KIND_RUN ? "results of run"
-                                                    : "results of step",
-                                   seed, number)) {
+    if (results_refused(w, budget, wrong_lengths[which]))
+        return;
+    if (report_difference(kind == KIND_RUN ? "results of run"
+                                           : "results of step",
+                          seed, number)) {
         printf("  results of %" PRIu32 " numbers, budget %" PRIu32
                ": not refused with 2, or something is changed\n",
                wrong_lengths[which], (uint32_t)budget);
@@ -38,9 +33,7 @@ void results_case(struct world *w, bool spoilt, uint16_t budget,
         report_cells("cells before", w->plain.cells);
         report_counted(w);
     }
-    w->summary_length = PLAIN_SUMMARY;
-    if (!good)
-        sides_level(w);
+    sides_level(w);
 }
 
 void print_results(void)
@@ -49,9 +42,7 @@ void print_results(void)
     for (int i = 0; i < LENGTHS; i++)
         printf("%s %" PRIu32 ": %" PRIu64 " + %" PRIu64, i == 0 ? "" : ",",
                wrong_lengths[i], refused[i][0], refused[i][1]);
-    printf("; the summary's too: %" PRIu64 "\n", with_summary);
-    if (with_summary == 0)
-        report_missing("results of a wrong length,", "the summary's too");
+    printf("\n");
     for (int i = 0; i < LENGTHS; i++) {
         char length[12];
         snprintf(length, sizeof length, "%" PRIu32, wrong_lengths[i]);

@@ -6,9 +6,8 @@
 
 /*
  * Now and then, before a case's own call: a run with results of a wrong length
- * is refused with 2, whatever else is wrong (a cell, a slice, the summary), and
- * changes nothing. The sides are level before it and after. Drawn from a
- * sequence of its own.
+ * is refused with 2, whatever else is wrong, and changes nothing. The sides are
+ * level before it and after. Drawn from a sequence of its own.
  */
 void results_case(struct world *w, bool spoilt, uint16_t budget,
                   uint64_t kind, uint64_t seed, uint64_t number);

@@ -7,7 +7,6 @@
 #include "cases.h"
 #include "report.h"
 #include "results.h"
-#include "summary.h"
 #include "words.h"
 
 #include "crowmitten.h"
@@ -36,14 +35,6 @@ static uint64_t runs_reading;
 static uint64_t runs_writing;
 static uint64_t runs_with_neither;
 static uint64_t refused_with_some;
-
-/* Stores, and the runs that have some (D02, request 12). */
-static uint64_t words_stored;
-static uint64_t words_clipped;
-static uint64_t runs_storing;
-static uint64_t runs_clipping;
-static uint64_t runs_with_both; /* stores with OV 1 and with OV 0 */
-static uint64_t refused_after_stores;
 
 static struct world world;
 static struct world start;
@@ -96,8 +87,6 @@ static uint16_t draw_fair_word(struct draw *d, const struct plain_machine *m)
         return (uint16_t)((word & 0xFF00) | (0x60 + draw_below(d, 32)));
     if ((word & 0xFF00) == 0xCB00 && draw_percent(d, 75)) /* RPTK */
         return (uint16_t)(0xCB00 | draw_below(d, 10));
-    if (is_data_move(word) && (word & 0x80) == 0 && draw_percent(d, 30))
-        return word | 0x7F; /* the last of its page */
     if (plain_has_address(word) && draw_percent(d, m->rptc > 0 ? 30 : 5))
         return (uint16_t)(0x8000 | (word & 0xFF)); /* IN, port 0 */
     return word;
@@ -114,7 +103,8 @@ static uint32_t draw_second(struct draw *d, const struct plain_machine *m,
 /* The data words that a step of the nursery may change. */
 static uint32_t changed_address(const struct plain_machine *m, uint16_t word)
 {
-    uint32_t address = data_address(m, word);
+    uint32_t address = (word & 0x80) != 0 ? m->ar[m->arp]
+                                          : 128 * m->dp + (word & 0x7F);
     return address < PLAIN_DATA_WORDS ? address : 0;
 }
 
@@ -194,7 +184,7 @@ static void draw_memories(struct draw *d, struct world *w)
         w->rom[i] = draw_percent(d, 50) ? draw_built_word(d) : draw_word(d);
 }
 
-/* Registers that stay on the board for a while, some before a page's end. */
+/* Registers that stay on the board for a while. */
 static void draw_fair_cells(struct draw *d, struct plain_machine *m)
 {
     draw_cells(d, m);
@@ -204,8 +194,7 @@ static void draw_fair_cells(struct draw *d, struct plain_machine *m)
     m->dp = 6 + draw_below(d, 26);
     m->ar[0] = draw_below(d, 8);
     for (int i = 1; i < 8; i++)
-        m->ar[i] = draw_percent(d, 10) ? 0x370 + draw_below(d, 16)
-                                       : 0x300 + draw_below(d, 0xD00);
+        m->ar[i] = 0x300 + draw_below(d, 0xD00);
     m->mid = 0;
     m->rptc = 0;
     for (int i = 0; i < PLAIN_STACK_WORDS; i++)
@@ -348,28 +337,19 @@ static void count_run(struct outcome out)
     runs_writing += out.writes > 0;
     runs_with_neither += !some;
     refused_with_some += some && out.answer != PLAIN_DONE;
-    words_stored += out.stored;
-    words_clipped += out.clipped;
-    runs_storing += out.stored > 0;
-    runs_clipping += out.clipped > 0;
-    runs_with_both += out.clipped > 0 && out.clipped < out.stored;
-    refused_after_stores += out.stored > 0 && out.answer != PLAIN_DONE;
-    tally_summary(start.plain.summary, &world, out);
 }
 
 /* Two runs, one after the other: the last answer, and the sums. */
 static struct outcome together(struct outcome one, struct outcome two)
 {
-    return (struct outcome){ .answer = two.answer,
-                             .steps = one.steps + two.steps,
-                             .reads = one.reads + two.reads,
-                             .writes = one.writes + two.writes,
-                             .past = one.past + two.past };
+    return (struct outcome){ two.answer, one.steps + two.steps,
+                             one.reads + two.reads, one.writes + two.writes,
+                             one.past + two.past };
 }
 
 /*
- * The library goes on from what it left, the summary too, on its unused budget;
- * the plain side makes one run from the start.
+ * The library goes on from what it left, on its unused budget; the plain side
+ * makes one run from the start.
  */
 static void go_on(struct outcomes *out, uint16_t budget)
 {
@@ -435,14 +415,12 @@ static void run_case(uint64_t seed, uint64_t number)
     if (!draw_run_world(&d, &world, &spoilt)
         && report_difference("run (its file)", seed, number))
         report_sides(&world);
-    start_summary(&world, KIND_RUN, seed, number);
     sides_level(&world);
     start = world;
     uint16_t budget = draw_budget(&d, spoilt);
     bool split = draw_percent(&d, 20);
     split_runs += split;
     results_case(&world, spoilt, budget, KIND_RUN, seed, number);
-    summary_case(&world, spoilt, budget, KIND_RUN, seed, number);
     struct outcomes out = split
         ? run_in_two(budget, (uint16_t)draw_below(&d, budget + 1u))
         : run_all(&world, budget);
@@ -468,18 +446,6 @@ static void print_external(void)
         report_missing("a run with", "neither of them");
     if (refused_with_some == 0)
         report_missing("a run with", "some of them, then refused");
-}
-
-static void print_stores(void)
-{
-    printf("  stored: %" PRIu64 ", with OV 1 %" PRIu64 "; runs with stores %"
-           PRIu64 ", with OV 1 %" PRIu64 ", with both %" PRIu64
-           ", refused after some %" PRIu64 "\n", words_stored, words_clipped,
-           runs_storing, runs_clipping, runs_with_both, refused_after_stores);
-    if (runs_with_both == 0)
-        report_missing("a run with", "stores with OV 1 and with OV 0");
-    if (refused_after_stores == 0)
-        report_missing("a run with", "stores, then refused");
 }
 
 static void print_continued(void)
@@ -510,6 +476,5 @@ void compare_runs(uint64_t seed, uint64_t cases)
         printf(", from %d: %" PRIu64, from, lengths[i]);
     printf("\n");
     print_external();
-    print_stores();
     print_continued();
 }

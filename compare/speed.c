@@ -1,8 +1,8 @@
 /*
  * Steps per second on both emulators, of `run` and of calls of `step`, and of
  * the library's `run` beside `run_with`, which also tells the external reads
- * and writes and keeps a summary of the stores: the same programs from reset,
- * turn about in short spells of processor time, the fastest spell counted.
+ * and writes: the same programs from reset, turn about in short spells of
+ * processor time, the fastest spell counted.
  */
 #include "cases.h"
 #include "world.h"
@@ -90,11 +90,9 @@ static struct world world;
 
 typedef struct outcome one_run(uint16_t budget);
 
-/* A summary starts from zeros, as a number that has stopped costs less. */
 static struct outcome once_plain(uint16_t budget)
 {
     plain_reset(&world.plain.machine);
-    plain_summary_reset(world.plain.summary, PLAIN_SUMMARY);
     return run_plain(&world, budget);
 }
 
@@ -107,7 +105,6 @@ static struct outcome once_proved(uint16_t budget)
 static struct outcome once_counted(uint16_t budget)
 {
     crowmitten_reset(world.counted.cells, PLAIN_CELLS);
-    crowmitten_summary_reset(world.counted.summary, PLAIN_SUMMARY);
     return run_counted(&world, budget);
 }
 
@@ -154,7 +151,6 @@ static void set_world(const struct workload *load)
     world.data_length = PLAIN_DATA_WORDS;
     world.input_length = PLAIN_PORT_WORDS;
     world.output_length = PLAIN_PORT_WORDS;
-    world.summary_length = PLAIN_SUMMARY;
     sides_level(&world);
 }
 
@@ -245,7 +241,7 @@ static void print_rates(const char *name, const double rate[2])
     fflush(stdout);
 }
 
-/* The library alone: a run, and one with its external accesses and stores. */
+/* The library alone: a run, and the same with its external accesses. */
 static void print_counting(const double rate[2])
 {
     printf("  %-32s run   %10.0f   run_with %8.0f   ratio %.2f\n",

@@ -5,18 +5,14 @@
 #include "cases.h"
 #include "report.h"
 #include "results.h"
-#include "summary.h"
 #include "words.h"
 
 #include <inttypes.h>
 #include <stdio.h>
 #include <string.h>
 
-/*
- * The built pages that read a data word, and that write one (section 4.3), and
- * with the data moves those that can store one.
- */
-enum { ANSWERS = 12, READING_PAGES = 30, WRITING_PAGES = 6, STORING_PAGES = 9 };
+/* The built pages that read a data word, and that write one (section 4.3). */
+enum { ANSWERS = 12, READING_PAGES = 30, WRITING_PAGES = 6 };
 
 /* The three places of answer 5 in the order of a step (D01). */
 static const char *const absent_names[3] = {
@@ -34,13 +30,6 @@ static uint64_t pairs[BUILT_PAGES][MODES];
 static uint64_t read_outside[BUILT_PAGES];
 static uint64_t wrote_outside[BUILT_PAGES];
 
-/* Steps done, by page: a store counted, one with OV 1 (D02, request 12). */
-static uint64_t stored[BUILT_PAGES];
-static uint64_t clipped[BUILT_PAGES];
-static uint64_t moves_made;
-static uint64_t moves_not_made;
-static uint64_t moves_to_next_page;
-
 static struct world world;
 
 static uint16_t draw_instruction(struct draw *d)
@@ -53,20 +42,11 @@ static uint16_t draw_instruction(struct draw *d)
     return how < 96 ? draw_other_word(d) : (uint16_t)draw_bits(d);
 }
 
-/* A data address; for a data move the last one of a page often. */
-static uint32_t draw_access(struct draw *d, uint32_t cnf, uint16_t word)
-{
-    static const uint32_t last[] = { 0x7F, 0x27F, 0x2FF, 0x37F, 0x3FF, 0x47F };
-    if (is_data_move(word) && draw_percent(d, 20))
-        return DRAW_OF(d, last);
-    return draw_data_address(d, cnf);
-}
-
 /* An offset for a direct word, good with DP or not; others are left. */
 static uint16_t draw_offset(struct draw *d, struct world *w, uint16_t word)
 {
     struct plain_machine *m = &w->plain.machine;
-    uint32_t address = draw_access(d, m->cnf, word);
+    uint32_t address = draw_data_address(d, m->cnf);
     if (mode_of(word) != 0)
         return word;
     m->dp = (address >> 7) & 511;
@@ -79,7 +59,7 @@ static void draw_operand(struct draw *d, struct world *w, uint16_t word)
     struct plain_machine *m = &w->plain.machine;
     uint32_t address = 128 * m->dp + (word & 0x7F);
     if (mode_of(word) > 0) {
-        address = draw_access(d, m->cnf, word);
+        address = draw_data_address(d, m->cnf);
         if (word >= 0xF000) /* a branch makes no access; BANZ asks for 0 */
             address = draw_word(d);
         m->ar[m->arp] = address;
@@ -109,21 +89,6 @@ static int absent_place(const struct plain_machine *m)
     return program_on_board(m->cnf, (m->pc + 1) & 0xFFFF) ? 2 : 1;
 }
 
-static void count_stores(const struct plain_machine *before, uint16_t word,
-                         struct outcome out)
-{
-    int page = page_of(word);
-    stored[page] += out.stored;
-    clipped[page] += out.clipped;
-    if (!is_data_move(word))
-        return;
-    bool last = data_address(before, word) % PLAIN_PAGE_WORDS
-        == PLAIN_PAGE_WORDS - 1;
-    moves_made += out.stored;
-    moves_not_made += 1 - out.stored;
-    moves_to_next_page += last ? out.stored : 0;
-}
-
 static void count_step(const struct plain_machine *before, uint16_t word,
                        struct outcome out)
 {
@@ -143,7 +108,6 @@ static void count_step(const struct plain_machine *before, uint16_t word,
     done[page]++;
     read_outside[page] += out.reads;
     wrote_outside[page] += out.writes;
-    count_stores(before, word, out);
     if (mode >= 0) {
         modes[mode]++;
         pairs[page][mode]++;
@@ -167,14 +131,12 @@ static uint32_t compare_step(const char *kind, uint64_t seed, uint64_t number)
 {
     static struct side before;
     memcpy(before.cells, world.plain.cells, sizeof before.cells);
-    memcpy(before.summary, world.plain.summary, sizeof before.summary);
     uint32_t pc = before.machine.pc & 0xFFFF;
     uint16_t word = (uint16_t)program_word(&world, pc);
     uint16_t second = (uint16_t)program_word(&world, (pc + 1) & 0xFFFF);
 
     struct outcomes out = step_all(&world);
     count_step(&before.machine, word, out.plain);
-    tally_summary(before.summary, &world, out.plain);
     if (all_same(&world, &out))
         return out.plain.answer;
     if (report_difference(kind, seed, number))
@@ -192,10 +154,8 @@ static void step_case(uint64_t seed, uint64_t number)
     bool spoilt = draw_percent(&d, 5);
     if (spoilt)
         spoil(&d, &world);
-    start_summary(&world, KIND_STEP, seed, number);
     cells_level(&world);
     results_case(&world, spoilt, 1, KIND_STEP, seed, number);
-    summary_case(&world, spoilt, 1, KIND_STEP, seed, number);
     compare_step("step", seed, number);
 }
 
@@ -209,7 +169,6 @@ static uint32_t word_case(uint64_t seed, uint32_t word)
     m->pc = draw_below(&d, PLAIN_ROM_WORDS - 1);
     m->rptc = 0;
     draw_world(&d, &world, (uint16_t)word);
-    start_summary(&world, KIND_WORD, seed, word);
     cells_level(&world);
     return compare_step("word", seed, word);
 }
@@ -276,28 +235,6 @@ static void print_external(void)
         report_missing("both on chip and outside:", "the 6 pages that write");
 }
 
-/* Each of the storing pages with OV 1 and with OV 0. */
-static void print_stores(void)
-{
-    uint64_t all = 0, with_ov = 0;
-    int pages = 0;
-    for (int i = 0; i < BUILT_PAGES; i++) {
-        all += stored[i];
-        with_ov += clipped[i];
-        pages += clipped[i] != 0 && clipped[i] < stored[i];
-    }
-    printf("  stored, done: %" PRIu64 ", with OV 1 %" PRIu64 " (%d pages); "
-           "data moves made %" PRIu64 ", into the next page %" PRIu64
-           ", not made %" PRIu64 "\n", all, with_ov, pages, moves_made,
-           moves_to_next_page, moves_not_made);
-    if (pages != STORING_PAGES)
-        report_missing("both with OV 1 and OV 0:", "the 9 pages that store");
-    if (moves_to_next_page == 0)
-        report_missing("a data move", "into the next page");
-    if (moves_not_made == 0)
-        report_missing("a data move", "that is not made");
-}
-
 static void find_missing(void)
 {
     char number[4];
@@ -344,11 +281,6 @@ static void forget_counts(void)
     memset(pairs, 0, sizeof pairs);
     memset(read_outside, 0, sizeof read_outside);
     memset(wrote_outside, 0, sizeof wrote_outside);
-    memset(stored, 0, sizeof stored);
-    memset(clipped, 0, sizeof clipped);
-    moves_made = 0;
-    moves_not_made = 0;
-    moves_to_next_page = 0;
 }
 
 void compare_steps(uint64_t seed, uint64_t cases)
@@ -360,6 +292,5 @@ void compare_steps(uint64_t seed, uint64_t cases)
     print_answers();
     print_pages();
     print_external();
-    print_stores();
     find_missing();
 }

@@ -1,7 +1,6 @@
 /* What is asked for without a step: windows, words sent; and resets. */
 #include "cases.h"
 #include "report.h"
-#include "summary.h"
 
 #include "crowmitten.h"
 
@@ -22,8 +21,6 @@ struct part {
 static uint64_t windows[ANSWERS];
 static uint64_t window_memories[3];
 static uint64_t sent[ANSWERS];
-static uint64_t summaries_reset;
-static uint64_t summaries_refused;
 
 static struct world world;
 
@@ -139,26 +136,6 @@ static void reset_case(uint64_t seed, uint64_t number)
     sides_level(&world);
 }
 
-/* 64 zeros, or 14 and nothing changed (D02, request 12). */
-static void summary_reset_case(struct draw *d, uint64_t seed, uint64_t number)
-{
-    static uint16_t plain[WIDE_SUMMARY];
-    static uint16_t proved[WIDE_SUMMARY];
-    size_t length = draw_percent(d, 50) ? PLAIN_SUMMARY : draw_wrong_summary(d);
-    draw_summary(d, plain);
-    memcpy(proved, plain, sizeof proved);
-    uint32_t want = (uint32_t)plain_summary_reset(plain, length);
-    uint32_t got = crowmitten_summary_reset(proved, length);
-    summaries_reset += want == PLAIN_DONE;
-    summaries_refused += want == PLAIN_SUMMARY_WRONG;
-    if (got == want && memcmp(plain, proved, sizeof proved) == 0)
-        return;
-    if (report_difference("reset of summary", seed, number)) {
-        report_number("answer", want, got);
-        report_words("summary", plain, proved, WIDE_SUMMARY);
-    }
-}
-
 static void view_case(uint64_t seed, uint64_t number)
 {
     struct draw d = draw_case(seed, KIND_VIEW, number);
@@ -170,7 +147,6 @@ static void view_case(uint64_t seed, uint64_t number)
     window_case(&d, seed, number);
     sent_case(seed, number);
     reset_case(seed, number);
-    summary_reset_case(&d, seed, number);
 }
 
 void compare_views(uint64_t seed, uint64_t cases)
@@ -184,13 +160,9 @@ void compare_views(uint64_t seed, uint64_t cases)
            windows[2], windows[5]);
     printf("  words sent by answer: 0: %" PRIu64 ", 1: %" PRIu64
            ", 2: %" PRIu64 "\n", sent[0], sent[1], sent[2]);
-    printf("  resets of a summary by answer: 0: %" PRIu64 ", 14: %" PRIu64 "\n",
-           summaries_reset, summaries_refused);
     if (windows[1] == 0 || windows[2] == 0 || windows[5] == 0
         || window_memories[1] == 0 || window_memories[2] == 0)
         report_missing("an answer of", "windows");
     if (sent[0] == 0 || sent[1] == 0 || sent[2] == 0)
         report_missing("an answer of", "words sent");
-    if (summaries_reset == 0 || summaries_refused == 0)
-        report_missing("an answer of", "resets of a summary");
 }

@@ -102,13 +102,6 @@ const char *mode_name(int mode)
     return mode_names[mode];
 }
 
-bool is_data_move(uint16_t word)
-{
-    const char *name = plain_name(word);
-    return strcmp(name, "DMOV") == 0 || strcmp(name, "LTD") == 0
-        || strcmp(name, "MACD") == 0;
-}
-
 bool page_has_mode(int page, int mode)
 {
     return has_mode[page][mode];

@@ -22,9 +22,6 @@ int mode_of(uint16_t word);
 
 const char *mode_name(int mode);
 
-/* Whether the word is of DMOV, LTD or MACD, which make a data move (D01). */
-bool is_data_move(uint16_t word);
-
 /* Whether some word of the page has the mode. */
 bool page_has_mode(int page, int mode);
 

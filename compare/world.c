@@ -5,8 +5,7 @@
 #include <string.h>
 
 /* Slices longer than a world's own, one for each place in a call. */
-enum { WIDE_SLICES = 5 };
-static uint16_t wide[WIDE_SLICES][WIDE_ROOM];
+static uint16_t wide[4][WIDE_ROOM];
 
 /* What the results hold before a call that must set them, or leave them. */
 static const uint32_t not_set = 0xDEAD;
@@ -32,14 +31,9 @@ static uint16_t *lent_output(const struct world *w, struct side *side)
     return w->output_length > PORT_ROOM ? wide[3] : side->output;
 }
 
-static uint16_t *lent_summary(const struct world *w, struct side *side)
-{
-    return w->summary_length > SUMMARY_ROOM ? wide[4] : side->summary;
-}
-
 bool wide_untouched(void)
 {
-    for (int i = 0; i < WIDE_SLICES; i++)
+    for (int i = 0; i < 4; i++)
         for (size_t j = 0; j < WIDE_ROOM; j++)
             if (wide[i][j] != 0)
                 return false;
@@ -49,36 +43,20 @@ bool wide_untouched(void)
     return true;
 }
 
-static struct plain_summary plain_summary(struct world *w)
-{
-    return (struct plain_summary){ .numbers = lent_summary(w, &w->plain),
-                                   .length = w->summary_length };
-}
-
-static struct outcome plain_outcome(int answer, uint32_t steps,
-                                    struct plain_external external,
-                                    struct plain_summary summary)
-{
-    return (struct outcome){ .answer = (uint32_t)answer, .steps = steps,
-                             .reads = external.reads,
-                             .writes = external.writes,
-                             .stored = summary.stored,
-                             .clipped = summary.clipped };
-}
-
 struct outcome step_plain(struct world *w)
 {
     struct side *s = &w->plain;
     struct plain_external external;
-    struct plain_summary summary = plain_summary(w);
     if (w->cells_length != PLAIN_CELLS)
         return (struct outcome){ .answer = PLAIN_SLICE_WRONG };
     int answer = plain_step(&s->machine, lent_rom(w), w->rom_length,
                             lent_data(w, s), w->data_length,
                             lent_input(w), w->input_length,
-                            lent_output(w, s), w->output_length, &external,
-                            &summary);
-    return plain_outcome(answer, answer == PLAIN_DONE, external, summary);
+                            lent_output(w, s), w->output_length, &external);
+    return (struct outcome){ .answer = (uint32_t)answer,
+                             .steps = answer == PLAIN_DONE,
+                             .reads = external.reads,
+                             .writes = external.writes };
 }
 
 struct outcome step_proved(struct world *w)
@@ -96,7 +74,6 @@ struct outcome run_plain(struct world *w, uint16_t budget)
 {
     struct side *s = &w->plain;
     struct plain_external external;
-    struct plain_summary summary = plain_summary(w);
     if (w->cells_length != PLAIN_CELLS)
         return (struct outcome){ .answer = PLAIN_SLICE_WRONG };
     uint32_t steps = 0;
@@ -104,8 +81,10 @@ struct outcome run_plain(struct world *w, uint16_t budget)
                            lent_data(w, s), w->data_length,
                            lent_input(w), w->input_length,
                            lent_output(w, s), w->output_length,
-                           budget, &steps, &external, &summary);
-    return plain_outcome(answer, steps, external, summary);
+                           budget, &steps, &external);
+    return (struct outcome){ .answer = (uint32_t)answer, .steps = steps,
+                             .reads = external.reads,
+                             .writes = external.writes };
 }
 
 struct outcome run_proved(struct world *w, uint16_t budget)
@@ -132,7 +111,6 @@ static uint32_t run_with(struct world *w, uint16_t budget, uint32_t *results,
                                lent_data(w, s), w->data_length,
                                lent_input(w), w->input_length,
                                lent_output(w, s), w->output_length,
-                               lent_summary(w, s), w->summary_length,
                                budget, results, results_length);
 }
 
@@ -174,15 +152,11 @@ bool is_step_answer(uint32_t answer)
     return answer <= PLAIN_INPUT_DRY && answer != 8;
 }
 
-/*
- * A step reads at most one data word and writes at most one (X5); a word
- * written to external RAM is stored.
- */
+/* A step reads at most one data word and writes at most one (X5). */
 static bool is_outcome(const struct outcome *out)
 {
     return is_step_answer(out->answer) && out->reads <= out->steps
-        && out->stored <= out->steps && out->writes <= out->stored
-        && out->clipped <= out->stored;
+        && out->writes <= out->steps;
 }
 
 bool outcomes_same(const struct outcomes *out)
@@ -202,12 +176,6 @@ static bool same(const struct side *a, const struct side *b)
         && memcmp(a->output, b->output, sizeof a->output) == 0;
 }
 
-/* The summary as well, and what stands behind it. */
-static bool same_with_summary(const struct side *a, const struct side *b)
-{
-    return same(a, b) && memcmp(a->summary, b->summary, sizeof a->summary) == 0;
-}
-
 bool sides_same(const struct world *w)
 {
     return same(&w->plain, &w->proved);
@@ -216,27 +184,14 @@ bool sides_same(const struct world *w)
 bool all_same(const struct world *w, const struct outcomes *out)
 {
     return outcomes_same(out) && same(&w->plain, &w->proved)
-        && same_with_summary(&w->plain, &w->counted);
+        && same(&w->plain, &w->counted);
 }
 
 bool results_refused(struct world *w, uint16_t budget, size_t length)
 {
     uint32_t answer = run_with(w, budget, wide_results, length);
     return answer == PLAIN_SLICE_WRONG && changed_from(wide_results, 0) == 0
-        && same_with_summary(&w->plain, &w->counted);
-}
-
-/* The proved side makes no run here: it has what the sides had before. */
-bool summary_refused(struct world *w, uint16_t budget, struct outcomes *out)
-{
-    struct outcome a = run_plain(w, budget);
-    struct outcome c = run_counted(w, budget);
-    *out = (struct outcomes){ .plain = a, .counted = c };
-    return (a.answer == PLAIN_CELL_OUT_OF_RANGE || a.answer == PLAIN_SLICE_WRONG
-            || a.answer == PLAIN_SUMMARY_WRONG) && c.answer == a.answer
-        && c.steps == 0 && c.reads == 0 && c.writes == 0 && c.past == 0
-        && same_with_summary(&w->proved, &w->plain)
-        && same_with_summary(&w->proved, &w->counted);
+        && same(&w->plain, &w->counted);
 }
 
 void sides_level(struct world *w)
@@ -247,17 +202,8 @@ void sides_level(struct world *w)
 
 void cells_level(struct world *w)
 {
-    struct side *const others[2] = { &w->proved, &w->counted };
-    for (int i = 0; i < 2; i++) {
-        memcpy(others[i]->cells, w->plain.cells, sizeof w->plain.cells);
-        memcpy(others[i]->summary, w->plain.summary, sizeof w->plain.summary);
-    }
-}
-
-uint32_t data_address(const struct plain_machine *m, uint16_t word)
-{
-    return (word & 0x80) != 0 ? m->ar[m->arp & 7] & 0xFFFF
-                              : (128 * m->dp + (word & 0x7F)) & 0xFFFF;
+    memcpy(w->proved.cells, w->plain.cells, sizeof w->proved.cells);
+    memcpy(w->counted.cells, w->plain.cells, sizeof w->counted.cells);
 }
 
 void put_data(struct world *w, uint32_t address, uint16_t word)
@@ -342,7 +288,6 @@ void draw_slices(struct draw *d, struct world *w)
     w->cells_length = PLAIN_CELLS;
     w->rom_length = PLAIN_ROM_WORDS;
     w->data_length = PLAIN_DATA_WORDS;
-    w->summary_length = PLAIN_SUMMARY;
     w->input_length = draw_port_length(d);
     w->output_length = draw_port_length(d);
     m->input_cursor = draw_cursor(d, w->input_length);

@@ -15,10 +15,8 @@ enum {
     MEMORY_ROOM = 4096 + 64,
     PORT_ROOM = 1024 + 64,
     RESULT_ROOM = 8,
-    SUMMARY_ROOM = 128 + 8,
     WIDE_ROOM = 65536 + 4096, /* a length whose low 16 bits are right */
-    WIDE_RESULTS = 65536 + 3, /* and one for the results */
-    WIDE_SUMMARY = 65536 + 64 /* and one for the summary */
+    WIDE_RESULTS = 65536 + 3  /* and one for the results */
 };
 
 struct side {
@@ -28,7 +26,6 @@ struct side {
     };
     uint16_t data[MEMORY_ROOM];
     uint16_t output[PORT_ROOM];
-    uint16_t summary[SUMMARY_ROOM]; /* not lent to the proved side's calls */
 };
 
 struct world {
@@ -39,7 +36,6 @@ struct world {
     size_t data_length;
     size_t input_length;
     size_t output_length;
-    size_t summary_length;
     struct side plain;
     struct side proved;
     struct side counted;
@@ -52,8 +48,6 @@ struct outcome {
     uint32_t reads;  /* from external RAM (D02, request 7) */
     uint32_t writes; /* to it */
     uint32_t past;   /* how many numbers behind the results were changed */
-    uint32_t stored; /* the words counted in the summary (D02, request 12), */
-    uint32_t clipped; /* and those with OV 1: the plain side alone tells it */
 };
 
 /* The same step or run on every side. The proved one has no counts. */
@@ -80,13 +74,6 @@ struct outcomes run_all(struct world *w, uint16_t budget);
  */
 bool results_refused(struct world *w, uint16_t budget, size_t length);
 
-/*
- * A run on the plain and the counted side, lent a summary of a wrong length,
- * the sides level before. Whether both are refused alike, with 1, 2 or 14, and
- * no side is changed and the results are 0.
- */
-bool summary_refused(struct world *w, uint16_t budget, struct outcomes *out);
-
 /* The slice that is lent: the own words, or a wide one if they are too few. */
 const uint16_t *lent_rom(const struct world *w);
 uint16_t *lent_data(const struct world *w, struct side *side);
@@ -100,13 +87,10 @@ bool outcomes_same(const struct outcomes *out);
 /* The plain and the proved side alone. */
 bool sides_same(const struct world *w);
 
-/* All three sides, what they handed out, and the two summaries. */
+/* All three sides, and what they handed out. */
 bool all_same(const struct world *w, const struct outcomes *out);
 
-/*
- * The other two sides take what the plain side has: all of it, or the cells and
- * the summary.
- */
+/* The other two sides take what the plain side has: all of it, or the cells. */
 void sides_level(struct world *w);
 void cells_level(struct world *w);
 
@@ -116,9 +100,6 @@ bool wide_untouched(void);
 /* The word of program memory at an address, on every side. */
 void put_program(struct world *w, uint32_t address, uint16_t word);
 uint32_t program_word(const struct world *w, uint32_t address);
-
-/* The data address of a word with an address field, 16 bits. */
-uint32_t data_address(const struct plain_machine *m, uint16_t word);
 
 /* A data word on every side. */
 void put_data(struct world *w, uint32_t address, uint16_t word);

@@ -56,33 +56,6 @@ def copy(input):
     ], 4 * 4 + 1, input=input)
 
 
-def bright_plane():
-    """1000h is added to a plane of four pages from 0400h on; the sums go to 0800h on. Every second word of the third page, and every
-    word of the fourth, is 7800h: its sum is held at 7FFFh. BV takes OV away behind each store, so that it tells of that word alone."""
-    program = [
-        0xCE03,          # SOVM
-        0xC806,          # LDPK 6: page 0300h, block B1
-        0xCA04, 0x6000,  # LACK 4; SACL 0
-        0x2800, 0x6000,  # LAC 0,8; SACL 0: 0400h
-        0x3100,          # LAR AR1,0: where the plane is
-        0x2100, 0x6001,  # LAC 0,1; SACL 1: 0800h
-        0x3201,          # LAR AR2,1: where the sums go
-        0xCAFF, 0x6002,  # LACK 255; SACL 2
-        0x2102, 0xCC01,  # LAC 2,1; ADDK 1: 511
-        0x6002, 0x3302,  # SACL 2; LAR AR3,2: 512 words
-        0xCA10, 0x6003,  # LACK 16; SACL 3
-        0x2803, 0x6003,  # LAC 3,8; SACL 3: 1000h
-        0x5589,          # LARP 1
-        0x40AA,          # ZALH *+,AR2
-        0x4803,          # ADDH 3
-        0x68AB,          # SACH *+,0,AR3
-        0xF080, 0x001A,  # BV 001Ah: the next instruction
-        0xFB99, 0x0015,  # BANZ 0015h,*-,AR1
-    ]
-    plane = 128 * [0x1000] + 128 * [0x6000] + 64 * [0x6000, 0x7800] + 128 * [0x7800]
-    return run_file(program, 21 + 512 * 5, data=plane)
-
-
 # every section at its most, 16,400 bytes; the last word of each is used
 LARGEST = run_file(
     [
@@ -150,7 +123,6 @@ EXAMPLES = {
     # the last word is missing, and the same run with all words
     'copy': copy([0x1234, 0xABCD, 0xFFFF]),
     'copy-whole': copy([0x1234, 0xABCD, 0xFFFF, 0]),
-    'bright-plane': bright_plane(),
     'largest': LARGEST,
     # 1,024 words sent in 10,000 steps or more, then refused by 10: 5,145 bytes
     'longest': run_file([

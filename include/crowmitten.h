@@ -7,9 +7,9 @@
  * slices or numbers that are lent to one call overlap unless both are const.
  *
  * Every function returns an answer of the table below. A refusal changes no
- * cell, no memory, no port and no summary, and the numbers that it hands out
- * are 0; only results of a wrong length are left as they are. Only a run keeps,
- * and counts, the steps that were done before the refused one.
+ * cell, no memory and no port, and the numbers that it hands out are 0; only
+ * results of a wrong length are left as they are. Only a run keeps, and counts,
+ * the steps that were done before the refused one.
  */
 #ifndef CROWMITTEN_H
 #define CROWMITTEN_H
@@ -34,7 +34,6 @@ enum crowmitten_answer {
     CROWMITTEN_WRONG_PORT = 9,        /* IN from a port other than 0, OUT to one other than 1 */
     CROWMITTEN_OUTPUT_FULL = 10,      /* OUT with the output slice full */
     CROWMITTEN_INPUT_DRY = 11,        /* IN with no word left in the input slice */
-    CROWMITTEN_SUMMARY_UNFIT = 14,    /* a summary is not of 64 numbers */
     CROWMITTEN_FILE_SHORT = 20,       /* a run file of fewer than 16 bytes */
     CROWMITTEN_FILE_VERSION = 21,     /* its version is not 1 */
     CROWMITTEN_FILE_RULES = 22,       /* its counts, offsets or length are against the rules */
@@ -105,23 +104,6 @@ uint32_t crowmitten_run(uint32_t *cells, size_t cells_length,
                         uint16_t *output, size_t output_length,
                         uint16_t budget, uint32_t *steps);
 
-/*
- * A summary of stores by data page: page p is the 128 words from data[128 * p]
- * on. Number p counts the words that were stored there, number
- * CROWMITTEN_CLIPPED + p those that were stored by steps that left OV at 1.
- * Each number stops at 65,535. OV stays 1 until BV or BNV takes it, and a fresh
- * summary does not: stores after an overflow count as long as it is 1. A word
- * that is stored or copied after OV was taken away does not count there.
- */
-enum crowmitten_summary {
-    CROWMITTEN_STORED = 0,   /* the stores into pages 0 to 31 are 0 to 31 */
-    CROWMITTEN_CLIPPED = 32, /* those by steps that left OV at 1 are 32 to 63 */
-    CROWMITTEN_SUMMARY = 64
-};
-
-/* A fresh summary, 64 times 0, whatever it held: 0; or 14, and it is left as it is. */
-uint32_t crowmitten_summary_reset(uint16_t *summary, size_t summary_length);
-
 /* What a run hands out: one number each, in this order. */
 enum crowmitten_result {
     CROWMITTEN_STEPS = 0,  /* the steps done, the refused one not counted */
@@ -131,29 +113,20 @@ enum crowmitten_result {
 };
 
 /*
- * A run, with all that it hands out, each number at its place in results, and
- * with its stores counted in summary, on top of what the summary held. Before
- * anything else it is 2 if results_length is not CROWMITTEN_RESULTS: results is
- * then left as it is. Otherwise the answer is that of crowmitten_run, or 14,
- * which comes directly after 2, with budget 0 too, where summary_length is not
- * CROWMITTEN_SUMMARY; NULL with length 0 is 14. Results is then always written:
- * all 0 if the cells, the slices or the summary are refused, else the numbers of
- * the steps done. Fetches, table words of MAC and MACD, and ports are not
- * counted; a data move writes nothing outside. In the summary every word that is
- * written into data counts, also an equal one, and a data move's copy in its own
- * page. After 11, go on as after crowmitten_run: the numbers of both calls add,
- * and the same summary goes on. With budget 1 this is a step, with the step's
- * own counts.
- *
- * Before request 12 it had no summary: what calls it must be changed, and
- * compiled again.
+ * A run, with all that it hands out, each number at its place in results. 2 if
+ * results_length is not CROWMITTEN_RESULTS, before anything else: results is
+ * then left as it is. Otherwise the answer of crowmitten_run, and results is
+ * always written: all 0 if the cells or the slices are refused, else the
+ * numbers of the steps done. Fetches, table words of MAC and MACD, and ports
+ * are not counted; a data move writes nothing outside. After 11, go on as after
+ * crowmitten_run: the numbers of both calls add. With budget 1 this is
+ * crowmitten_step, with the step's own counts.
  */
 uint32_t crowmitten_run_with(uint32_t *cells, size_t cells_length,
                              const uint16_t *rom, size_t rom_length,
                              uint16_t *data, size_t data_length,
                              const uint16_t *input, size_t input_length,
                              uint16_t *output, size_t output_length,
-                             uint16_t *summary, size_t summary_length,
                              uint16_t budget,
                              uint32_t *results, size_t results_length);
 

@@ -12,16 +12,14 @@ NAMED += [('S%d' % at, 4) for at in range(8)] + [('ICUR', 3), ('OCUR', 3)]
 # The places that a case may name: the number that the program knows each by, and those digits.
 CELLS = {name: (0x4000 + at, digits) for at, (name, digits) in enumerate(NAMED)}
 CELLS.update({'ANS': (0x5000, 2), 'STEPS': (0x6000, 4), 'XR': (0x7000, 4), 'XW': (0x8000, 4)})
-BANKS = {'M': (0x0000, 0xFFF), 'R': (0x1000, 0xFFF), 'I': (0x2000, 3), 'O': (0x3000, 3), 'PAGE': (0x9000, 0x1F), 'CLIP': (0x9020, 0x1F)}
-# The summary's numbers that are lent, unless a case says another number of them.
-SUMMARY = 0x40
+BANKS = {'M': (0x0000, 0xFFF), 'R': (0x1000, 0xFFF), 'I': (0x2000, 3), 'O': (0x3000, 3)}
 
 
 def places(name):
-    """The places of a name: a cell, a word as M501, a run of words as M300-37F, or numbers of the summary by their page, as CLIP6."""
+    """The places of a name: a cell, a word as M501, or a run of words as M300-37F."""
     if name in CELLS:
         return [(name,) + CELLS[name]]
-    found = re.fullmatch('(%s)([0-9A-F]+)(?:-([0-9A-F]+))?' % '|'.join(BANKS), name)
+    found = re.fullmatch('([MRIO])([0-9A-F]+)(?:-([0-9A-F]+))?', name)
     if not found:
         raise SystemExit('no such place: ' + name)
     bank, last = BANKS[found[1]]
@@ -31,25 +29,11 @@ def places(name):
     return [('%s%X' % (found[1], at), bank + at, 4) for at in range(low, high + 1)]
 
 
-def named(text):
-    """The names of a case, each with its value."""
+def pairs(text):
     words = text.split()
     if len(words) % 2:
         raise SystemExit('a place without its value: ' + text)
-    return [(name, int(value, 16)) for name, value in zip(words[::2], words[1::2])]
-
-
-def pairs(text):
-    return [(place, value) for name, value in named(text) if name != 'LENT' for place in places(name)]
-
-
-def calls(words, counted, lent):
-    """The calls of a case: a step, or a run for each xN at the end of its words, which it takes away."""
-    budgets = [int(word[1:], 16) for word in words if word[0] == 'x']
-    del words[len(words) - len(budgets):]
-    if counted:
-        return [act('W', lent, budget) for budget in budgets or [1]]
-    return [act('R', value=budget) for budget in budgets] or [act('T')]
+    return [(place, int(value, 16)) for name, value in zip(words[::2], words[1::2]) for place in places(name)]
 
 
 def act(kind, place=0, value=0, label=''):
@@ -64,15 +48,15 @@ def case(line):
     name, page, program, cells = [part.strip() for part in line.split('|')]
     before, after = [pairs(part) for part in cells.split('->')]
     words = program.split()
-    counted = any(re.match('XR|XW|PAGE|CLIP|LENT', name) for name, _ in named(cells.replace('->', ' ')))
-    called = calls(words, counted, dict(named(cells.split('->')[0])).get('LENT', SUMMARY))
-    if called[-1][0] == 'T' and any(place[0] == 'STEPS' for place, _ in after):
+    steps = int(words.pop()[1:], 16) if words and words[-1][0] == 'x' else None
+    counted = any(place[0] in ('XR', 'XW') for place, _ in after)
+    if steps is None and any(place[0] == 'STEPS' for place, _ in after):
         raise SystemExit('only a run counts its steps: ' + line)
     start = dict((place[0], value) for place, value in before).get('PC', 0)
     asked = [act('N', label=name)]
     asked += [act('S', 0x1000 + start + at, int(word, 16)) for at, word in enumerate(words)]
     asked += [act('S', place[1], value) for place, value in before]
-    asked += called
+    asked += [act('W', value=1 if steps is None else steps) if counted else act('T') if steps is None else act('R', value=steps)]
     if not any(place[0] == 'ANS' for place, _ in after):
         after.insert(0, (places('ANS')[0], 0))
     printed = '%-15s' % name

@@ -19,7 +19,6 @@ uint32_t set_up_board(struct board *b)
     if (answer != CROWMITTEN_DONE)
         return answer;
     crowmitten_reset(b->cells, CROWMITTEN_CELLS);
-    crowmitten_summary_reset(b->summary, CROWMITTEN_SUMMARY);
     return crowmitten_set_up(bytes, length, b->rom, CROWMITTEN_MEMORY_WORDS, b->data,
                              CROWMITTEN_MEMORY_WORDS, b->input, b->input_count);
 }
@@ -35,8 +34,8 @@ uint32_t run_board_with(struct board *b, uint16_t budget, uint32_t *results)
 {
     return crowmitten_run_with(b->cells, CROWMITTEN_CELLS, b->rom, CROWMITTEN_MEMORY_WORDS,
                                b->data, CROWMITTEN_MEMORY_WORDS, b->input, b->input_count,
-                               b->output, CROWMITTEN_PORT_WORDS_MAX, b->summary,
-                               CROWMITTEN_SUMMARY, budget, results, CROWMITTEN_RESULTS);
+                               b->output, CROWMITTEN_PORT_WORDS_MAX, budget, results,
+                               CROWMITTEN_RESULTS);
 }
 
 void print_line(const struct board *b, uint32_t answer, uint32_t steps)

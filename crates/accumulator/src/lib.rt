@@ -30,6 +30,7 @@ fn with_shifted(m: Machine, s: Shifted) -> Machine
     n
 }
 
+#[tactic(auto, unfolding(pages::specs::AccumulatorPages::ADD))]
 fn add(m: Machine, shift: u8, w: u16) -> Machine
     ensures { result ≡ ADD shift w m }
 {
@@ -39,6 +40,7 @@ fn add(m: Machine, shift: u8, w: u16) -> Machine
     )
 }
 
+#[tactic(auto, unfolding(pages::specs::AccumulatorPages::SUB))]
 fn sub(m: Machine, shift: u8, w: u16) -> Machine
     ensures { result ≡ SUB shift w m }
 {
@@ -48,18 +50,21 @@ fn sub(m: Machine, shift: u8, w: u16) -> Machine
     )
 }
 
+#[tactic(auto, unfolding(pages::specs::AccumulatorPages::LAC))]
 fn lac(m: Machine, shift: u8, w: u16) -> Machine
     ensures { result ≡ LAC shift w m }
 {
     with_acc(m, shifts::operand_of(w, shift, m.sxm))
 }
 
+#[tactic(auto, unfolding(pages::specs::AccumulatorPages::ADDH))]
 fn addh(m: Machine, w: u16) -> Machine
     ensures { result ≡ ADDH w m }
 {
     with_sum(m, sums::add_high(m.acc, w, m.ov, m.ovm, m.c))
 }
 
+#[tactic(auto, unfolding(pages::specs::AccumulatorPages::ADDS))]
 fn adds(m: Machine, w: u16) -> Machine
     ensures { result ≡ ADDS w m }
 {
@@ -69,12 +74,14 @@ fn adds(m: Machine, w: u16) -> Machine
     )
 }
 
+#[tactic(auto, unfolding(pages::specs::AccumulatorPages::SUBH))]
 fn subh(m: Machine, w: u16) -> Machine
     ensures { result ≡ SUBH w m }
 {
     with_sum(m, sums::subtract_high(m.acc, w, m.ov, m.ovm, m.c))
 }
 
+#[tactic(auto, unfolding(pages::specs::AccumulatorPages::SUBS))]
 fn subs(m: Machine, w: u16) -> Machine
     ensures { result ≡ SUBS w m }
 {
@@ -84,6 +91,7 @@ fn subs(m: Machine, w: u16) -> Machine
     )
 }
 
+#[tactic(auto, unfolding(pages::specs::AccumulatorPages::SUBC))]
 fn subc(m: Machine, w: u16) -> Machine
     ensures { result ≡ SUBC w m }
 {
@@ -93,90 +101,105 @@ fn subc(m: Machine, w: u16) -> Machine
     )
 }
 
+#[tactic(auto, unfolding(pages::specs::AccumulatorPages::ZALH))]
 fn zalh(m: Machine, w: u16) -> Machine
     ensures { result ≡ ZALH w m }
 {
     with_acc(m, sums::in_high_half(w))
 }
 
+#[tactic(auto, unfolding(pages::specs::AccumulatorPages::ZALS))]
 fn zals(m: Machine, w: u16) -> Machine
     ensures { result ≡ ZALS w m }
 {
     with_acc(m, shifts::unsigned_operand(w))
 }
 
+#[tactic(auto, unfolding(pages::specs::AccumulatorPages::AND))]
 fn and(m: Machine, w: u16) -> Machine
     ensures { result ≡ AND w m }
 {
     with_acc(m, logic::and_low(m.acc, w))
 }
 
+#[tactic(auto, unfolding(pages::specs::AccumulatorPages::OR))]
 fn or(m: Machine, w: u16) -> Machine
     ensures { result ≡ OR w m }
 {
     with_acc(m, logic::or_low(m.acc, w))
 }
 
+#[tactic(auto, unfolding(pages::specs::AccumulatorPages::XOR))]
 fn xor(m: Machine, w: u16) -> Machine
     ensures { result ≡ XOR w m }
 {
     with_acc(m, logic::xor_low(m.acc, w))
 }
 
+#[tactic(auto, unfolding(pages::specs::AccumulatorPages::SACL))]
 fn sacl(m: Machine, shift: u8) -> u16
     ensures { result ≡ SACL shift m }
 {
     shifts::stored_low(m.acc, shift)
 }
 
+#[tactic(auto, unfolding(pages::specs::AccumulatorPages::SACH))]
 fn sach(m: Machine, shift: u8) -> u16
     ensures { result ≡ SACH shift m }
 {
     shifts::stored_high(m.acc, shift)
 }
 
+#[tactic(auto, unfolding(pages::specs::AccumulatorPages::LACK))]
 fn lack(m: Machine, k: u8) -> Machine
     ensures { result ≡ LACK k m }
 {
     with_acc(m, k as u32)
 }
 
+#[tactic(auto, unfolding(pages::specs::AccumulatorPages::ADDK))]
 fn addk(m: Machine, k: u8) -> Machine
     ensures { result ≡ ADDK k m }
 {
     with_sum(m, sums::add(m.acc, k as u32, m.ov, m.ovm))
 }
 
+#[tactic(auto, unfolding(pages::specs::AccumulatorPages::SUBK))]
 fn subk(m: Machine, k: u8) -> Machine
     ensures { result ≡ SUBK k m }
 {
     with_sum(m, sums::subtract(m.acc, k as u32, m.ov, m.ovm))
 }
 
+#[tactic(auto, unfolding(pages::specs::AccumulatorPages::CMPL))]
 fn cmpl(m: Machine) -> Machine
     ensures { result ≡ CMPL m }
 {
     with_acc(m, logic::complement(m.acc))
 }
 
+#[tactic(auto, unfolding(pages::specs::AccumulatorPages::NEG))]
 fn neg(m: Machine) -> Machine
     ensures { result ≡ NEG m }
 {
     with_sum(m, sums::negate(m.acc, m.ov, m.ovm))
 }
 
+#[tactic(auto, unfolding(pages::specs::AccumulatorPages::ABS))]
 fn abs(m: Machine) -> Machine
     ensures { result ≡ ABS m }
 {
     with_sum(m, sums::absolute_value(m.acc, m.ov, m.ovm))
 }
 
+#[tactic(auto, unfolding(pages::specs::AccumulatorPages::SFL))]
 fn sfl(m: Machine) -> Machine
     ensures { result ≡ SFL m }
 {
     with_shifted(m, shifts::left_by_one(m.acc))
 }
 
+#[tactic(auto, unfolding(pages::specs::AccumulatorPages::SFR))]
 fn sfr(m: Machine) -> Machine
     ensures { result ≡ SFR m }
 {
@@ -184,6 +207,7 @@ fn sfr(m: Machine) -> Machine
 }
 
 // The rule of each case, with the machine after the operand's modification and the data word that was read.
+#[tactic(auto, unfolding(pages::specs::AccumulatorRule::accumulator_rule))]
 pub fn rule(i: Accumulator, m: Machine, w: u16) -> Effect
     ensures { result ≡ accumulator_rule i m w }
 {

@@ -45,6 +45,7 @@ pub fn with_register(m: Machine, i: u8, word: u16) -> Machine
 }
 
 // The register `ar` modified, with AR0 as the index.
+#[tactic(auto, unfolding(pages::specs::Addressing::moved))]
 fn moved_register(modification: Modification, ar: u16, index: u16) -> u16
     ensures { result ≡ moved modification ar index }
 {
@@ -60,6 +61,7 @@ fn moved_register(modification: Modification, ar: u16, index: u16) -> u16
 }
 
 // ARP and ARB after a next ARP was asked for.
+#[tactic(auto, unfolding(pages::specs::Addressing::pointed))]
 fn point(m: Machine, next: NextArp) -> Machine
     ensures { result ≡ pointed next m }
 {
@@ -74,6 +76,7 @@ fn point(m: Machine, next: NextArp) -> Machine
     }
 }
 
+#[tactic(auto, unfolding(pages::specs::Addressing::modified))]
 pub fn modify(m: Machine, operand: Indirect) -> Machine
     ensures { result ≡ modified operand m }
 {
@@ -84,6 +87,7 @@ pub fn modify(m: Machine, operand: Indirect) -> Machine
 }
 
 // The machine after an operand's modification.
+#[tactic(auto, unfolding(pages::specs::Addressing::addressed, pages::specs::Addressing::modified))]
 pub fn after_operand(m: Machine, operand: Operand) -> Machine
     ensures { result ≡ addressed operand m }
 {
@@ -97,6 +101,7 @@ pub fn after_operand(m: Machine, operand: Operand) -> Machine
 }
 
 // The address of an operand: at most 65,535 in every step, but DP and the offset hold more than their nine and seven bits.
+#[tactic(auto, unfolding(pages::specs::Addressing::address_of))]
 pub fn address_of(m: Machine, operand: Operand) -> u32
     ensures { result ≡ address_of operand m }
 {
@@ -110,6 +115,7 @@ pub fn address_of(m: Machine, operand: Operand) -> u32
 }
 
 // The program address that a MAC or MACD reads its table word at.
+#[tactic(auto, unfolding(pages::specs::MultiplierPages::table_address))]
 pub fn table_address(m: Machine, second: u16) -> u16
     ensures { result ≡ table_address m second }
 {

@@ -10,30 +10,35 @@ use instructions::Auxiliary;
 use machine::Machine;
 use pages::{Effect, Jump, Store};
 
+#[tactic(auto, unfolding(pages::specs::AuxiliaryPages::LAR))]
 fn lar(m: Machine, r: u8, w: u16) -> Machine
     ensures { result ≡ LAR r w m }
 {
     with_register(m, r, w)
 }
 
+#[tactic(auto, unfolding(pages::specs::AuxiliaryPages::SAR))]
 fn sar(before: Machine, r: u8) -> u16
     ensures { result ≡ SAR r before }
 {
     register_of(before, r)
 }
 
+#[tactic(auto, unfolding(pages::specs::AuxiliaryPages::LARK))]
 fn lark(m: Machine, r: u8, k: u8) -> Machine
     ensures { result ≡ LARK r k m }
 {
     with_register(m, r, k as u16)
 }
 
+#[tactic(auto, unfolding(pages::specs::AuxiliaryPages::MAR))]
 fn mar(m: Machine) -> Machine
     ensures { result ≡ MAR m }
 {
     m
 }
 
+#[tactic(auto, unfolding(pages::specs::AuxiliaryPages::ADRK))]
 fn adrk(m: Machine, k: u8) -> Machine
     ensures { result ≡ ADRK k m }
 {
@@ -44,6 +49,7 @@ fn adrk(m: Machine, k: u8) -> Machine
     )
 }
 
+#[tactic(auto, unfolding(pages::specs::AuxiliaryPages::SBRK))]
 fn sbrk(m: Machine, k: u8) -> Machine
     ensures { result ≡ SBRK k m }
 {
@@ -54,6 +60,7 @@ fn sbrk(m: Machine, k: u8) -> Machine
     )
 }
 
+#[tactic(auto, unfolding(pages::specs::AuxiliaryPages::LDP))]
 fn ldp(m: Machine, w: u16) -> Machine
     ensures { result ≡ LDP w m }
 {
@@ -62,6 +69,7 @@ fn ldp(m: Machine, w: u16) -> Machine
     n
 }
 
+#[tactic(auto, unfolding(pages::specs::AuxiliaryPages::LDPK))]
 fn ldpk(m: Machine, k: u16) -> Machine
     ensures { result ≡ LDPK k m }
 {
@@ -71,6 +79,7 @@ fn ldpk(m: Machine, k: u16) -> Machine
 }
 
 // The rule of each case, with the machine before and after the operand's modification and the data word that was read.
+#[tactic(auto, unfolding(pages::specs::AuxiliaryRule::auxiliary_rule))]
 pub fn rule(i: Auxiliary, before: Machine, m: Machine, w: u16) -> Effect
     ensures { result ≡ auxiliary_rule i before m w }
 {

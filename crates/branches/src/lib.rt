@@ -12,30 +12,35 @@ use machine::{Machine, pop_on, push_on};
 use pages::Effect;
 use passes::{jump_to, keep};
 
+#[tactic(auto, unfolding(pages::specs::BranchesPages::branched))]
 fn branch(test: bool, pma: u16, m: Machine) -> Effect
     ensures { result ≡ branched test pma m }
 {
     if test { jump_to(m, pma) } else { keep(m) }
 }
 
+#[tactic(auto, unfolding(pages::specs::BranchesPages::B))]
 fn b(pma: u16, m: Machine) -> Effect
     ensures { result ≡ B pma m }
 {
     jump_to(m, pma)
 }
 
+#[tactic(auto, unfolding(pages::specs::BranchesPages::BANZ))]
 fn banz(before: Machine, pma: u16, m: Machine) -> Effect
     ensures { result ≡ BANZ before pma m }
 {
     branch(register_of(before, before.arp) != 0, pma, m)
 }
 
+#[tactic(auto, unfolding(pages::specs::BranchesPages::BZ))]
 fn bz(pma: u16, m: Machine) -> Effect
     ensures { result ≡ BZ pma m }
 {
     branch(m.acc == 0, pma, m)
 }
 
+#[tactic(auto, unfolding(pages::specs::BranchesPages::BNZ))]
 fn bnz(pma: u16, m: Machine) -> Effect
     ensures { result ≡ BNZ pma m }
 {
@@ -74,24 +79,28 @@ fn without_overflow(m: Machine) -> Machine
     n
 }
 
+#[tactic(auto, unfolding(pages::specs::BranchesPages::BV))]
 fn bv(pma: u16, m: Machine) -> Effect
     ensures { result ≡ BV pma m }
 {
     branch(m.ov == 1, pma, without_overflow(m))
 }
 
+#[tactic(auto, unfolding(pages::specs::BranchesPages::BNV))]
 fn bnv(pma: u16, m: Machine) -> Effect
     ensures { result ≡ BNV pma m }
 {
     branch(m.ov == 0, pma, without_overflow(m))
 }
 
+#[tactic(auto, unfolding(pages::specs::BranchesPages::CALL))]
 fn call(pma: u16, m: Machine) -> Effect
     ensures { result ≡ CALL pma m }
 {
     jump_to(push_on(m, registers::wrapped_sum(m.pc, 2)), pma)
 }
 
+#[tactic(auto, unfolding(pages::specs::BranchesPages::RET))]
 fn ret(m: Machine) -> Effect
     ensures { result ≡ RET m }
 {
@@ -101,6 +110,7 @@ fn ret(m: Machine) -> Effect
 }
 
 // The rule of each case, with the machine before and after the operand's modification and the second word.
+#[tactic(auto, unfolding(pages::specs::BranchesRule::branches_rule))]
 pub fn rule(i: Branches, before: Machine, m: Machine, pma: u16) -> Effect
     ensures { result ≡ branches_rule i before m pma }
 {

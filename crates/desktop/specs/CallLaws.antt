@@ -7,9 +7,9 @@ use Rattle.answers.specs.Numbers.{number_of, is_done}
 use Rattle.answers.specs.declared.Answer.TheVariants.{SlicesUnfit}
 use Rattle.steps.specs.declared.Outside.{Outside}
 use Rattle.steps.specs.OperandFound.{none_outside}
-use Rattle.steps.specs.World.{World, Outcome, RunOutcome}
-use Rattle.steps.specs.Step.{step_of}
-use Rattle.steps.specs.Summary.{run_with, outside_with, summary_with}
+use Rattle.steps.specs.World.{Outcome}
+use Rattle.steps.specs.Step.{step_of, run_of}
+use Rattle.steps.specs.Tally.{outside_of}
 use Rattle.emulator.specs.declared.Stepped.{Stepped}
 use Rattle.emulator.specs.declared.Ran.{Ran}
 use Rattle.emulator.specs.Outcomes.{stepped, ran}
@@ -17,7 +17,7 @@ use Rattle.c_cells.specs.Cells.{machine_of, cells_of}
 use Rattle.c_cells.specs.Checks.{cells_answer, cells_after}
 use Rattle.c_cells.specs.CheckLaws.{kept_after}
 use Rattle.c_results.specs.Results.{results_fit, results_of, results_after}
-use Rattle.desktop.specs.Calls.{called, world_of, world_called, step_called, RunCalled, run_done, called_by, outside_called, summary_called, run_with_called}
+use Rattle.desktop.specs.Calls.{called, world_of, world_called, step_called, RunCalled, run_done, run_called, outside_called, run_with_called}
 use Rattle.board.specs.Given.{Given}
 
 module _ (g : Given) (cells d o : List ℕ) where
@@ -27,9 +27,9 @@ module _ (g : Given) (cells d o : List ℕ) where
     unfolding step_called
     step_refused = simp h (rw k)
 
-    pub run_refused : (run : World → RunOutcome) {steps : ℕ} → steps ≡ 0 → record { steps = steps; after = called n cells d o } ≡ called_by run cells d o
-    unfolding called_by
-    run_refused run s = simp h (rw (s, k))
+    pub run_refused : (budget : ℕ) {steps : ℕ} → steps ≡ 0 → record { steps = steps; after = called n cells d o } ≡ run_called g budget cells d o
+    unfolding run_called
+    run_refused budget s = simp h (rw (s, k))
 
   module _ {m : Machine} (h : is_done (cells_answer cells) ≡ true) (e : m ≡ machine_of cells) where
     pub step_made : (s : Stepped) {after d₂ o₂ : List ℕ} {n : ℕ}
@@ -43,55 +43,44 @@ module _ (g : Given) (cells d o : List ℕ) where
         let cells₂ : after ≡ cells_of s.m = a ∙ kept_after cells s.m h in
         simp h (rw (k, cells₂) (ap (λ (x : Outcome). world_called x.answer x.world) same))
 
-    pub run_made : (run : World → RunOutcome) (r : Ran) {after d₂ o₂ : List ℕ} {n steps : ℕ}
-        → ran r d₂ o₂ ≡ run (record { m = m; «data» = d; output = o })
+    pub run_made : (budget : ℕ) (r : Ran) {after d₂ o₂ : List ℕ} {n steps : ℕ}
+        → ran r d₂ o₂ ≡ run_of g budget (record { m = m; «data» = d; output = o })
         → after ≡ cells_after cells r.m
         → steps ≡ r.steps
         → n ≡ number_of r.answer
-        → record { steps = steps; after = called n after d₂ o₂ } ≡ called_by run cells d o
-    unfolding called_by
-    run_made run r {after} {d₂} {o₂} {n} f a s k =
-        let same : ran r d₂ o₂ ≡ run (world_of cells d o) = f ∙ rw e in
+        → record { steps = steps; after = called n after d₂ o₂ } ≡ run_called g budget cells d o
+    unfolding run_called
+    run_made budget r {after} {d₂} {o₂} {n} f a s k =
+        let same : ran r d₂ o₂ ≡ run_of g budget (world_of cells d o) = f ∙ rw e in
         let cells₂ : after ≡ cells_of r.m = a ∙ kept_after cells r.m h in
         simp h (rw (s, k, cells₂) (ap run_done same))
 
--- ---- a run with a summary, and with all that it hands out
+-- ---- a run with all that it hands out
 
-module _ (g : Given) (budget : ℕ) (cells d o summary results : List ℕ) where
+module _ (g : Given) (budget : ℕ) (cells d o results : List ℕ) where
   -- what the call gives, where its results are of their number
   module _ (fits : results_fit results ≡ true) where
-    with_run : {steps n : ℕ} {outside : Outside} {after d₂ o₂ summary₂ numbers : List ℕ} → numbers ≡ results_after results steps outside
-        → record { steps = steps; after = called n after d₂ o₂ } ≡ called_by (run_with summary g budget) cells d o
-        → outside ≡ outside_called summary g budget cells d o → summary₂ ≡ summary_called summary g budget cells d o
-        → record { results = numbers; summary = summary₂; after = called n after d₂ o₂ } ≡ run_with_called g budget cells d o summary results
+    with_run : {steps n : ℕ} {outside : Outside} {after d₂ o₂ numbers : List ℕ} → numbers ≡ results_after results steps outside
+        → record { steps = steps; after = called n after d₂ o₂ } ≡ run_called g budget cells d o → outside ≡ outside_called g budget cells d o
+        → record { results = numbers; after = called n after d₂ o₂ } ≡ run_with_called g budget cells d o results
     unfolding run_with_called results_after
-    with_run e r f u =
-        simp fits
-        (rw (e, fits, f, u)
-        (ap (λ (x : RunCalled). record {
-          results = results_of x.steps (outside_called summary g budget cells d o);
-          summary = summary_called summary g budget cells d o;
-          after = x.after;
-        }) r))
+    with_run e r f = simp fits (rw (e, fits, f) (ap (λ (x : RunCalled). record { results = results_of x.steps (outside_called g budget cells d o); after = x.after }) r))
 
     pub run_with_refused : {n : ℕ} {numbers : List ℕ} → is_done (cells_answer cells) ≡ false → n ≡ number_of (cells_answer cells) → numbers ≡ results_after results 0 none_outside
-        → record { results = numbers; summary = summary; after = called n cells d o } ≡ run_with_called g budget cells d o summary results
-    unfolding outside_called summary_called
-    run_with_refused h k e = with_run e (run_refused g cells d o h k (run_with summary g budget) refl) (simp h) (simp h)
+        → record { results = numbers; after = called n cells d o } ≡ run_with_called g budget cells d o results
+    unfolding outside_called
+    run_with_refused h k e = with_run e (run_refused g cells d o h k budget refl) (simp h)
 
-    pub run_with_made : {m : Machine} → is_done (cells_answer cells) ≡ true → m ≡ machine_of cells → (r : Ran) {after d₂ o₂ summary₂ numbers : List ℕ} {n : ℕ}
-        → ran r d₂ o₂ ≡ run_with summary g budget (record { m = m; «data» = d; output = o })
-        → r.outside ≡ outside_with summary g budget (record { m = m; «data» = d; output = o })
-        → summary₂ ≡ summary_with summary g budget (record { m = m; «data» = d; output = o })
+    pub run_with_made : {m : Machine} → is_done (cells_answer cells) ≡ true → m ≡ machine_of cells → (r : Ran) {after d₂ o₂ numbers : List ℕ} {n : ℕ}
+        → ran r d₂ o₂ ≡ run_of g budget (record { m = m; «data» = d; output = o })
+        → r.outside ≡ outside_of g budget (record { m = m; «data» = d; output = o })
         → numbers ≡ results_after results r.steps r.outside
         → after ≡ cells_after cells r.m
         → n ≡ number_of r.answer
-        → record { results = numbers; summary = summary₂; after = called n after d₂ o₂ } ≡ run_with_called g budget cells d o summary results
-    unfolding outside_called summary_called
-    run_with_made h e r f u s numbers a k =
-        with_run numbers (run_made g cells d o h e (run_with summary g budget) r f a refl k) (simp h (u ∙ rw e)) (simp h (s ∙ rw e))
+        → record { results = numbers; after = called n after d₂ o₂ } ≡ run_with_called g budget cells d o results
+    unfolding outside_called
+    run_with_made h e r f u numbers a k = with_run numbers (run_made g cells d o h e budget r f a refl k) (simp h (u ∙ rw e))
 
-  pub results_refused : {n : ℕ} → results_fit results ≡ false → n ≡ number_of SlicesUnfit
-      → record { results = results; summary = summary; after = called n cells d o } ≡ run_with_called g budget cells d o summary results
+  pub results_refused : {n : ℕ} → results_fit results ≡ false → n ≡ number_of SlicesUnfit → record { results = results; after = called n cells d o } ≡ run_with_called g budget cells d o results
   unfolding run_with_called
   results_refused h k = simp h (rw k)

@@ -7,7 +7,7 @@ use Rattle.steps.specs.declared.Outside.{Outside}
 use Rattle.steps.specs.OperandFound.{none_outside}
 use Rattle.steps.specs.World.{World, RunOutcome}
 use Rattle.steps.specs.Step.{step_of, run_of}
-use Rattle.steps.specs.Summary.{run_with, outside_with, summary_with}
+use Rattle.steps.specs.Tally.{outside_of}
 use Rattle.c_cells.specs.Cells.{machine_of, cells_of}
 use Rattle.c_cells.specs.Checks.{cells_answer}
 use Rattle.c_results.specs.Results.{results_fit, results_of}
@@ -46,37 +46,27 @@ pub record RunCalled : Type 0 where
 abbrev pub run_done : RunOutcome → RunCalled
 run_done r = record { steps = r.steps; after = world_called r.answer r.world }
 
--- a call of a run: of `run_of`, or of a run with a summary
-unfoldable pub called_by : (World → RunOutcome) → List ℕ → List ℕ → List ℕ → RunCalled
-called_by run cells data_words output =
-    cond (is_done (cells_answer cells)) (run_done (run (world_of cells data_words output)))
+unfoldable pub run_called : Given → ℕ → List ℕ → List ℕ → List ℕ → RunCalled
+run_called g budget cells data_words output =
+    cond (is_done (cells_answer cells)) (run_done (run_of g budget (world_of cells data_words output)))
     (record { steps = 0; after = called (number_of (cells_answer cells)) cells data_words output })
 
-abbrev pub run_called : Given → ℕ → List ℕ → List ℕ → List ℕ → RunCalled
-run_called g budget cells data_words output = called_by (run_of g budget) cells data_words output
+-- ---- a run with all that it hands out (document 02, request 7)
 
--- ---- a run with a summary, and with all that it hands out (document 02, requests 7 and 12)
-
--- the external reads and writes of the run, and none where the cells are refused
-unfoldable pub outside_called : List ℕ → Given → ℕ → List ℕ → List ℕ → List ℕ → Outside
-outside_called summary g budget cells data_words output = cond (is_done (cells_answer cells)) (outside_with summary g budget (world_of cells data_words output)) none_outside
-
--- the summary after it, as it was where the cells are refused
-unfoldable pub summary_called : List ℕ → Given → ℕ → List ℕ → List ℕ → List ℕ → List ℕ
-summary_called summary g budget cells data_words output = cond (is_done (cells_answer cells)) (summary_with summary g budget (world_of cells data_words output)) summary
+-- the external reads and writes of a run, and none where the cells are refused
+unfoldable pub outside_called : Given → ℕ → List ℕ → List ℕ → List ℕ → Outside
+outside_called g budget cells data_words output = cond (is_done (cells_answer cells)) (outside_of g budget (world_of cells data_words output)) none_outside
 
 pub record RunWithCalled : Type 0 where
   pub results : List ℕ
-  pub summary : List ℕ
   pub after : Called
 
 -- Results of a wrong length are refused before anything else is looked at; else the call is that of a run.
-unfoldable pub run_with_called : Given → ℕ → List ℕ → List ℕ → List ℕ → List ℕ → List ℕ → RunWithCalled
-run_with_called g budget cells data_words output summary results =
+unfoldable pub run_with_called : Given → ℕ → List ℕ → List ℕ → List ℕ → List ℕ → RunWithCalled
+run_with_called g budget cells data_words output results =
     cond (results_fit results)
     (record {
-      results = results_of (called_by (run_with summary g budget) cells data_words output).steps (outside_called summary g budget cells data_words output);
-      summary = summary_called summary g budget cells data_words output;
-      after = (called_by (run_with summary g budget) cells data_words output).after;
+      results = results_of (run_called g budget cells data_words output).steps (outside_called g budget cells data_words output);
+      after = (run_called g budget cells data_words output).after;
     })
-    (record { results = results; summary = summary; after = called (number_of SlicesUnfit) cells data_words output })
+    (record { results = results; after = called (number_of SlicesUnfit) cells data_words output })

@@ -11,6 +11,3 @@ pub const CELLS: usize = c_cells::CELLS;
 
 // How many numbers a run hands out.
 pub const RESULTS: usize = c_results::RESULTS;
-
-// How many numbers a summary is.
-pub const SUMMARY: usize = summaries::SUMMARY;

@@ -1,8 +1,7 @@
-// Reset, step and run, and a fresh summary.
+// Reset, step and run.
 ghost use Rattle.std.specs.Prelude.{◌≡◌};
 ghost use Rattle.machine.specs.Reset.{reset_machine};
 ghost use Rattle.answers.specs.Numbers.{number_of};
-ghost use Rattle.steps.specs.Summary.{summary_answer, reset_summary};
 ghost use Rattle.c_cells.specs.Checks.{length_answer, cells_after};
 ghost use Rattle.desktop.specs.Calls.{called, step_called, run_called, run_with_called};
 ghost use Rattle.board.specs.Given.{given};
@@ -11,9 +10,8 @@ use answers::{Answer, number_of};
 use c_cell_calls::{cells_number, cells_pass, put_run, put_step, refused_run, reset_cells};
 use c_cells::reading::machine_of;
 use c_results::{put_results, results_fit};
-use emulator::{run, run_with, step};
+use emulator::{run, step};
 use steps::Outside;
-use summaries::reset_summary;
 
 // The cells after reset, whatever they held.
 #[unsafe(no_mangle)]
@@ -64,7 +62,7 @@ pub extern "C" fn crowmitten_run(
     put_run(cells, after_run, last, done, steps)
 }
 
-// A run that counts its stores in a summary, and all that it hands out at its places in `results`.
+// A run, and all that it hands out at its places in `results`.
 #[unsafe(no_mangle)]
 pub extern "C" fn crowmitten_run_with(
     cells: &mut [u32],
@@ -72,11 +70,10 @@ pub extern "C" fn crowmitten_run_with(
     data: &mut [u16],
     input: &[u16],
     output: &mut [u16],
-    summary: &mut [u16],
     budget: u16,
     results: &mut [u32],
 ) -> u32
-    ensures { record { results = results.exit.now; summary = summary.new; after = called result cells.new «data».new output.new } ≡ run_with_called (given rom.now input.now) budget cells.old «data».old output.old summary.old results.entry.now }
+    ensures { record { results = results.exit.now; after = called result cells.new «data».new output.new } ≡ run_with_called (given rom.now input.now) budget cells.old «data».old output.old results.entry.now }
 {
     if !results_fit(results) {
         return number_of(Answer::SlicesUnfit);
@@ -92,19 +89,10 @@ pub extern "C" fn crowmitten_run_with(
         );
         return cells_number(cells);
     }
-    let done = run_with(machine_of(cells), rom, data, input, output, summary, budget);
+    let done = run(machine_of(cells), rom, data, input, output, budget);
     let after_run = done.m;
     let last = done.answer;
     let outside = done.outside;
     put_results(results, done.steps, outside);
     put_step(cells, after_run, last)
-}
-
-// A fresh summary, whatever it held.
-#[unsafe(no_mangle)]
-pub extern "C" fn crowmitten_summary_reset(summary: &mut [u16]) -> u32
-    ensures { (result ≡ number_of (summary_answer summary.old)) × (summary.new ≡ reset_summary summary.old) }
-{
-    let answer = reset_summary(summary);
-    number_of(answer)
 }

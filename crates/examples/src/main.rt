@@ -33,7 +33,6 @@ fn show_programs() {
     show(b"division");
     show(b"copy");
     show(b"copy-whole");
-    show(b"bright-plane");
 }
 
 // The largest file, and one whose line is the longest.

@@ -2,14 +2,13 @@
 // the lines read here, one act a line of 32 bytes, and into the file that the output is compared with.
 //
 // A line is `KIND PLACE VALUE LABEL`: N begins a case and prints its label, S puts the value into the place, T does one step, R runs with
-// the value as its budget, W does so by the call with results and with as many numbers of the summary as the place says, P prints its label
-// and the place in hexadecimal, E ends the case.
+// the value as its budget, W does so by the call with results, P prints its label and the place in hexadecimal, E ends the case.
 #![tactic(auto)]
 
-ghost use Rattle.std.specs.Prelude.{◌<◌, ◌≤◌};
+ghost use Rattle.std.specs.Prelude.{◌<◌};
 
 use desktop::running::{crowmitten_reset, crowmitten_run, crowmitten_run_with, crowmitten_step};
-use desktop::{CELLS, RESULTS, SUMMARY};
+use desktop::{CELLS, RESULTS};
 
 const STDIN: i32 = 0;
 
@@ -86,7 +85,7 @@ fn cell_at(cells: &[u32], at: u32) -> u32 {
     0
 }
 
-// The places of make.py, by their first digit: data memory, program memory, input words, words sent, cells, and the summary.
+// The places of make.py, by their first digit: data memory, program memory, input words, words sent, cells.
 fn store(
     a: Line,
     data: &mut [u16; 4096],
@@ -94,7 +93,6 @@ fn store(
     input: &mut [u16; 4],
     output: &mut [u16; 4],
     cells: &mut [u32; CELLS],
-    summary: &mut [u16; SUMMARY],
 ) {
     let at = a.place % 0x1000;
     let word = word_of(a.value);
@@ -103,12 +101,11 @@ fn store(
         1 => put_word(rom, at, word),
         2 => put_word(input, at, word),
         3 => put_word(output, at, word),
-        4 => put_cell(cells, at, a.value),
-        _ => put_word(summary, at, word),
+        _ => put_cell(cells, at, a.value),
     }
 }
 
-// What stands in a place; behind the cells, the last answer and what the last run counted, and then the summary.
+// What stands in a place; behind the cells, the last answer and what the last run counted.
 fn place_of(
     place: u32,
     last: Run,
@@ -116,7 +113,6 @@ fn place_of(
     rom: &[u16; 4096],
     output: &[u16; 4],
     cells: &[u32; CELLS],
-    summary: &[u16; SUMMARY],
 ) -> u32 {
     let at = place % 0x1000;
     match place / 0x1000 {
@@ -127,8 +123,7 @@ fn place_of(
         5 => last.answer,
         6 => last.steps,
         7 => last.reads,
-        8 => last.writes,
-        _ => word_at(summary, at),
+        _ => last.writes,
     }
 }
 
@@ -166,37 +161,17 @@ fn run_cells(
     }
 }
 
-// How many numbers of the summary are lent: at most all of them.
-fn lent_of(asked: u32, all: usize) -> usize
-    ensures { result ≤ all }
-{
-    let n = asked as usize;
-    if n < all { n } else { all }
-}
-
 // The results hold other numbers before, so that those of a refusal are seen to be written.
 fn run_with_results(
-    lent: u32,
     budget: u16,
     data: &mut [u16; 4096],
     rom: &[u16; 4096],
     input: &[u16; 4],
     output: &mut [u16; 4],
     cells: &mut [u32; CELLS],
-    summary: &mut [u16],
 ) -> Run {
     let mut results = [7u32; RESULTS];
-    let end = lent_of(lent, summary.len());
-    let answer = crowmitten_run_with(
-        cells,
-        rom,
-        data,
-        input,
-        output,
-        &mut summary[..end],
-        budget,
-        &mut results,
-    );
+    let answer = crowmitten_run_with(cells, rom, data, input, output, budget, &mut results);
     Run {
         answer,
         steps: results[0],
@@ -214,7 +189,6 @@ fn act(
     input: &mut [u16; 4],
     output: &mut [u16; 4],
     cells: &mut [u32; CELLS],
-    summary: &mut [u16; SUMMARY],
 ) -> Run {
     if a.kind == b'T' {
         return step_cells(data, rom, input, output, cells);
@@ -223,23 +197,14 @@ fn act(
         return run_cells(word_of(a.value), data, rom, input, output, cells);
     }
     if a.kind == b'W' {
-        return run_with_results(
-            a.place,
-            word_of(a.value),
-            data,
-            rom,
-            input,
-            output,
-            cells,
-            summary,
-        );
+        return run_with_results(word_of(a.value), data, rom, input, output, cells);
     }
     if a.kind == b'S' {
-        store(a, data, rom, input, output, cells, summary);
+        store(a, data, rom, input, output, cells);
         return last;
     }
     if a.kind == b'P' {
-        let shown = place_of(a.place, last, data, rom, output, cells, summary);
+        let shown = place_of(a.place, last, data, rom, output, cells);
         io::print_hex(STDOUT, shown as u64, a.value as usize);
     }
     last
@@ -285,14 +250,13 @@ fn lines_left(left: u32, kind: u8) -> u32
     if kind == b'E' { 0 } else { left - 1 }
 }
 
-// One case, with memories and a summary of its own that are all 0. It has at most 1000 lines.
+// One case, with memories of its own that are all 0. It has at most 1000 lines.
 fn case() {
     let mut data = [0u16; 4096];
     let mut rom = [0u16; 4096];
     let mut input = [0u16; 4];
     let mut output = [0u16; 4];
     let mut cells = [0u32; CELLS];
-    let mut summary = [0u16; SUMMARY];
     crowmitten_reset(&mut cells);
     let mut last = Run {
         answer: 0,
@@ -312,7 +276,6 @@ fn case() {
             &mut input,
             &mut output,
             &mut cells,
-            &mut summary,
         );
     }
 }

@@ -30,7 +30,7 @@ use Rattle.steps.specs.StoreLaws.{StoreAllowed, store_fits}
 use Rattle.steps.specs.TableLaws.{step_plan}
 use Rattle.steps.specs.Tally.{plan_in}
 use Rattle.steps.specs.TallyLaws.{step_has, few_outside, refused_none}
-use Rattle.laws.specs.Laws.{lying_in, external_among, addresses_read, addresses_written, CountsOfAStep, StoresByAddress, words_at}
+use Rattle.laws.specs.Laws.{external_among, addresses_read, addresses_written, CountsOfAStep, StoresByAddress, words_at}
 
 -- one address in external RAM or not
 one_among : (cnf a : ℕ) → cond (within 0x400 0xFFF a) 1 0 + 0 ≡ access_outside (data_region cnf a)
@@ -38,7 +38,7 @@ one_among cnf a = rw (outside_within cnf a) (omega arith)
 
 module _ (cnf address : ℕ) (d : List ℕ) where
   read_by : (access : Access) → (outside_by access (operand_found access cnf d address).region).reads ≡ external_among (addresses_read access address)
-  unfolding outside_by operand_found found_at lying_in addresses_read
+  unfolding outside_by operand_found found_at external_among addresses_read
   read_by Access.None = refl
   read_by Access.Reads = sym (one_among cnf address)
   read_by Access.Writes = refl
@@ -62,14 +62,14 @@ module _ (cnf address : ℕ) (d : List ℕ) where
   -- a data move goes from on chip to on chip
   none_moved : (allowed : Bool) (word : ℕ) → move_allowed (data_region cnf address) cnf address ≡ allowed
       → 0 ≡ external_among (addresses_written (cond allowed (Write.Data (address + 1) word) Write.Nothing))
-  unfolding lying_in addresses_written
+  unfolding external_among addresses_written
   none_moved true word e = sym (one_among cnf (address + 1) ∙ on_chip_not_outside cnf (address + 1) (moves (data_region cnf address) cnf address e).to)
   none_moved false word e = refl
 
   written_by : (access : Access) (store : Store) (cursor : ℕ) → StoreAllowed access store
       → (outside_by access (operand_found access cnf d address).region).writes
       ≡ external_among (addresses_written (write_of store (operand_found access cnf d address).region cnf address cursor))
-  unfolding outside_by operand_found found_at lying_in addresses_written write_of
+  unfolding outside_by operand_found found_at external_among addresses_written write_of
   written_by Access.None Left.Nothing cursor f = refl
   written_by Access.None (Left.Word word) cursor f = absurd f
   written_by Access.None (Left.Move word) cursor f = absurd f
@@ -87,14 +87,14 @@ abbrev WritesStored : Plan → Type 0
 WritesStored p = p.outside.writes ≡ external_among (addresses_written p.write)
 
 page_stored : (x : Decoded) (g : Given) (d : List ℕ) (m : Machine) → WritesStored (page_plan x g d m)
-unfolding page_plan performed passed_write effect_of found_for addresses_written lying_in
+unfolding page_plan performed passed_write effect_of found_for addresses_written external_among
 page_stored (Built i) g d m = written_by m.cnf (address_of (traits_of i).operand m) d (traits_of i).access _ m.output_cursor (store_fits i m _ _)
 page_stored Unbuilt g d m = refl
 page_stored Nothing g d m = refl
 
 module _ (g : Given) (w : World) where
   writes_stored : WritesStored (plan_in g w)
-  unfolding addresses_written lying_in
+  unfolding addresses_written external_among
   writes_stored = step_has g w WritesStored (λ a. refl) (λ x. page_stored x g w.«data» w.m)
 
   reads_of_page : (i : Instruction) → decoded_at g w.«data» w.m ≡ Built i → (step_of g w).answer ≡ Done

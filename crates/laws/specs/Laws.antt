@@ -183,9 +183,10 @@ unfoldable pub lying_in : ℕ → ℕ → List ℕ → ℕ
 lying_in first last [] = 0
 lying_in first last (address ∷ addresses) = cond (within first last address) 1 0 + lying_in first last addresses
 
--- "external RAM (0400h to 0FFFh)"
-abbrev pub external_among : List ℕ → ℕ
-external_among addresses = lying_in 0x400 0xFFF addresses
+-- "external RAM (0400h to 0FFFh)": how many of these data addresses lie in it
+unfoldable pub external_among : List ℕ → ℕ
+external_among [] = 0
+external_among (address ∷ addresses) = cond (within 0x400 0xFFF address) 1 0 + external_among addresses
 
 -- the data addresses that a page with this access reads: its operand's, once (ruling X1)
 unfoldable pub addresses_read : Access → ℕ → List ℕ

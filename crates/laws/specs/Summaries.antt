@@ -1,7 +1,7 @@
 -- A run that a summary is lent to: proofs.
 use Rattle.std.specs.Prelude.{◌≡◌, Bool, ltb, length, replicate}
 use Rattle.std.proofs.Math.Path.{refl, ap}
-use Rattle.std.proofs.Common.{sym, ◌∙◌, get_or-set_same, get_or-set_other}
+use Rattle.std.proofs.Common.{subst, sym, ◌∙◌, get_or-set_same, get_or-set_other}
 use Rattle.std.proofs.Math.Bool.{true, false, cond, false≢true}
 use mathlib.Core.List.{List, [], ◌∷◌, ◌++◌}
 use Prim.Native.Nat.{ℕ, zero, suc, ◌+◌, ◌/◌, ◌-◌, ◌≤◌, ◌<◌, min}
@@ -131,7 +131,7 @@ module _ (s : List ℕ) (g : Given) (budget : ℕ) (w : World) where
   unfolding is_among
   unfit_number u true e = rw (unfit_checks s g w.«data» (length w.output) w.m e u) refl
   unfit_number u false e =
-      rw (refused_checks s g w.«data» (length w.output) w.m e) (also (checks_of g w.«data» (length w.output) w.m) (answers_of_checks g w.«data» (length w.output) w.m))
+      subst (λ (a : Answer). is_among (number_of a) (14 ∷ step_numbers) ≡ true) (sym (refused_checks s g w.«data» (length w.output) w.m e)) (also (checks_of g w.«data» (length w.output) w.m) (answers_of_checks g w.«data» (length w.output) w.m))
 
   run_numbers : is_among (number_of (run_with s g budget w).answer) (14 ∷ step_numbers) ≡ true
   run_numbers = by_fit s

@@ -10,6 +10,7 @@ use machine::{Machine, pop_on, push_on};
 use pages::{Effect, Jump, Store};
 use words::bits;
 
+#[tactic(auto, unfolding(pages::specs::ModesPages::SOVM))]
 fn sovm(m: Machine) -> Machine
     ensures { result ≡ SOVM m }
 {
@@ -18,6 +19,7 @@ fn sovm(m: Machine) -> Machine
     n
 }
 
+#[tactic(auto, unfolding(pages::specs::ModesPages::ROVM))]
 fn rovm(m: Machine) -> Machine
     ensures { result ≡ ROVM m }
 {
@@ -26,6 +28,7 @@ fn rovm(m: Machine) -> Machine
     n
 }
 
+#[tactic(auto, unfolding(pages::specs::ModesPages::SSXM))]
 fn ssxm(m: Machine) -> Machine
     ensures { result ≡ SSXM m }
 {
@@ -34,6 +37,7 @@ fn ssxm(m: Machine) -> Machine
     n
 }
 
+#[tactic(auto, unfolding(pages::specs::ModesPages::RSXM))]
 fn rsxm(m: Machine) -> Machine
     ensures { result ≡ RSXM m }
 {
@@ -42,6 +46,7 @@ fn rsxm(m: Machine) -> Machine
     n
 }
 
+#[tactic(auto, unfolding(pages::specs::ModesPages::CNFD))]
 fn cnfd(m: Machine) -> Machine
     ensures { result ≡ CNFD m }
 {
@@ -50,6 +55,7 @@ fn cnfd(m: Machine) -> Machine
     n
 }
 
+#[tactic(auto, unfolding(pages::specs::ModesPages::CNFP))]
 fn cnfp(m: Machine) -> Machine
     ensures { result ≡ CNFP m }
 {
@@ -58,6 +64,7 @@ fn cnfp(m: Machine) -> Machine
     n
 }
 
+#[tactic(auto, unfolding(pages::specs::ModesPages::RPT))]
 fn rpt(w: u16, m: Machine) -> Machine
     ensures { result ≡ RPT w m }
 {
@@ -66,6 +73,7 @@ fn rpt(w: u16, m: Machine) -> Machine
     n
 }
 
+#[tactic(auto, unfolding(pages::specs::ModesPages::RPTK))]
 fn rptk(k: u8, m: Machine) -> Machine
     ensures { result ≡ RPTK k m }
 {
@@ -74,12 +82,14 @@ fn rptk(k: u8, m: Machine) -> Machine
     n
 }
 
+#[tactic(auto, unfolding(pages::specs::ModesPages::PUSH))]
 fn push(m: Machine) -> Machine
     ensures { result ≡ PUSH m }
 {
     push_on(m, bits::low_half(m.acc))
 }
 
+#[tactic(auto, unfolding(pages::specs::ModesPages::POP))]
 fn pop(m: Machine) -> Machine
     ensures { result ≡ POP m }
 {
@@ -90,6 +100,7 @@ fn pop(m: Machine) -> Machine
 }
 
 // The rule of each case, with the machine after the operand's modification and the data word that was read.
+#[tactic(auto, unfolding(pages::specs::ModesRule::modes_rule))]
 pub fn rule(i: Modes, m: Machine, w: u16) -> Effect
     ensures { result ≡ modes_rule i m w }
 {

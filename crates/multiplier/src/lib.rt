@@ -3,7 +3,7 @@
 
 ghost use Rattle.std.specs.Prelude.{◌≡◌};
 ghost use Rattle.machine.specs.Cells.{with_p, with_t};
-ghost use Rattle.pages.specs.MultiplierPages.{Lt, LTA, LTP, LTD, LTS, MPY, MPYA, MPYS, MPYK, SQRA, SQRS, MAC, MACD, PAC, APAC, SPAC, SPL, SPH, SPM};
+ghost use Rattle.pages.specs.MultiplierPages.{LT, LTA, LTP, LTD, LTS, MPY, MPYA, MPYS, MPYK, SQRA, SQRS, MAC, MACD, PAC, APAC, SPAC, SPL, SPH, SPM};
 ghost use Rattle.pages.specs.MultiplierRule.{multiplier_rule};
 
 use instructions::Multiplier;
@@ -27,6 +27,7 @@ fn with_p(m: Machine, p: u32) -> Machine
     n
 }
 
+#[tactic(auto, unfolding(pages::specs::MultiplierPages::PAC))]
 fn pac(m: Machine) -> Machine
     ensures { result ≡ PAC m }
 {
@@ -35,6 +36,7 @@ fn pac(m: Machine) -> Machine
     n
 }
 
+#[tactic(auto, unfolding(pages::specs::MultiplierPages::APAC))]
 fn apac(m: Machine) -> Machine
     ensures { result ≡ APAC m }
 {
@@ -44,6 +46,7 @@ fn apac(m: Machine) -> Machine
     )
 }
 
+#[tactic(auto, unfolding(pages::specs::MultiplierPages::SPAC))]
 fn spac(m: Machine) -> Machine
     ensures { result ≡ SPAC m }
 {
@@ -53,72 +56,84 @@ fn spac(m: Machine) -> Machine
     )
 }
 
+#[tactic(auto, unfolding(pages::specs::MultiplierPages::LT))]
 fn lt(m: Machine, w: u16) -> Machine
-    ensures { result ≡ Lt w m }
+    ensures { result ≡ LT w m }
 {
     with_t(m, w)
 }
 
+#[tactic(auto, unfolding(pages::specs::MultiplierPages::LTA))]
 fn lta(m: Machine, w: u16) -> Machine
     ensures { result ≡ LTA w m }
 {
     with_t(apac(m), w)
 }
 
+#[tactic(auto, unfolding(pages::specs::MultiplierPages::LTP))]
 fn ltp(m: Machine, w: u16) -> Machine
     ensures { result ≡ LTP w m }
 {
     with_t(pac(m), w)
 }
 
+#[tactic(auto, unfolding(pages::specs::MultiplierPages::LTD))]
 fn ltd(m: Machine, w: u16) -> Machine
     ensures { result ≡ LTD w m }
 {
     with_t(apac(m), w)
 }
 
+#[tactic(auto, unfolding(pages::specs::MultiplierPages::LTS))]
 fn lts(m: Machine, w: u16) -> Machine
     ensures { result ≡ LTS w m }
 {
     with_t(spac(m), w)
 }
 
+#[tactic(auto, unfolding(pages::specs::MultiplierPages::MPY))]
 fn mpy(m: Machine, w: u16) -> Machine
     ensures { result ≡ MPY w m }
 {
     with_p(m, products::product(m.t, w))
 }
 
+#[tactic(auto, unfolding(pages::specs::MultiplierPages::MPYA))]
 fn mpya(m: Machine, w: u16) -> Machine
     ensures { result ≡ MPYA w m }
 {
     with_p(apac(m), products::product(m.t, w))
 }
 
+#[tactic(auto, unfolding(pages::specs::MultiplierPages::MPYS))]
 fn mpys(m: Machine, w: u16) -> Machine
     ensures { result ≡ MPYS w m }
 {
     with_p(spac(m), products::product(m.t, w))
 }
 
+#[tactic(auto, unfolding(pages::specs::MultiplierPages::MPYK))]
 fn mpyk(m: Machine, k: u16) -> Machine
     ensures { result ≡ MPYK k m }
 {
     with_p(m, products::product(m.t, products::long_constant(k)))
 }
 
+#[tactic(auto, unfolding(pages::specs::MultiplierPages::SQRA))]
 fn sqra(m: Machine, w: u16) -> Machine
     ensures { result ≡ SQRA w m }
 {
     with_p(with_t(apac(m), w), products::product(w, w))
 }
 
+#[tactic(auto, unfolding(pages::specs::MultiplierPages::SQRS))]
 fn sqrs(m: Machine, w: u16) -> Machine
     ensures { result ≡ SQRS w m }
 {
     with_p(with_t(spac(m), w), products::product(w, w))
 }
 
+#[tactic(auto, unfolding(pages::specs::MultiplierPages::MAC))]
 fn mac(m: Machine, w: u16, table: u16, at: u16) -> Machine
     ensures { result ≡ MAC w table at m }
 {
@@ -127,6 +142,7 @@ fn mac(m: Machine, w: u16, table: u16, at: u16) -> Machine
     n
 }
 
+#[tactic(auto, unfolding(pages::specs::MultiplierPages::MACD, pages::specs::MultiplierPages::MAC))]
 fn macd(m: Machine, w: u16, table: u16, at: u16) -> Machine
     ensures { result ≡ MACD w table at m }
 {
@@ -136,18 +152,21 @@ fn macd(m: Machine, w: u16, table: u16, at: u16) -> Machine
     moved
 }
 
+#[tactic(auto, unfolding(pages::specs::MultiplierPages::SPL))]
 fn spl(m: Machine) -> u16
     ensures { result ≡ SPL m }
 {
     products::product_low(m.p, m.pm)
 }
 
+#[tactic(auto, unfolding(pages::specs::MultiplierPages::SPH))]
 fn sph(m: Machine) -> u16
     ensures { result ≡ SPH m }
 {
     products::product_high(m.p, m.pm)
 }
 
+#[tactic(auto, unfolding(pages::specs::MultiplierPages::SPM))]
 fn spm(m: Machine, k: u8) -> Machine
     ensures { result ≡ SPM k m }
 {
@@ -157,6 +176,7 @@ fn spm(m: Machine, k: u8) -> Machine
 }
 
 // The rule of each case, with the machine after the operand's modification, the data word that was read, and the program word of a MAC or MACD with its address.
+#[tactic(auto, unfolding(pages::specs::MultiplierPages::MAC, pages::specs::MultiplierRule::multiplier_rule))]
 pub fn rule(i: Multiplier, m: Machine, w: u16, table: u16, at: u16) -> Effect
     ensures { result ≡ multiplier_rule i m w table at }
 {

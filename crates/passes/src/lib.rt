@@ -69,6 +69,7 @@ pub fn jump_to(m: Machine, to: u16) -> Effect
 }
 
 // RPTC, MID and PC after a pass of an instruction of so many words.
+#[tactic(auto, unfolding(pages::specs::Passes::followed, pages::specs::Passes::destination))]
 pub fn follow(m: Machine, jump: Jump, words: u16, repeatable: bool) -> Machine
     ensures { result ≡ followed m jump words repeatable }
 {

@@ -99,8 +99,8 @@ runs_in_range g budget w k = run_keeps g budget w k
 pub start_in_range : StartInRange
 unfolding reset_machine slices_fit memories_fit port_fits
 start_in_range g «data» output hr hd hi ho fr fd fi fo = record {
-  in_range_lem = reset_in_range;
-  slices_fit_lem = simp (eq-eqb _ _ hr, eq-eqb _ _ hd, le-leb _ _ hi, le-leb _ _ ho, le-leb 0 (length g.input) (omega arith), le-leb 0 (length output) (omega arith));
+  in_range = reset_in_range;
+  slices_fit = simp (eq-eqb _ _ hr, eq-eqb _ _ hd, le-leb _ _ hi, le-leb _ _ ho, le-leb 0 (length g.input) (omega arith), le-leb 0 (length output) (omega arith));
   rom_words = fr;
   input_words = fi;
   data_words = fd;

@@ -160,8 +160,8 @@ module _ (g : Given) (w : World) (k : WorldInRange g w) (e : (step_of g w).answe
       let n = passed_fits g w.«data» (length w.output) x w.m f fields more room k.rom_words k.data_words k.input_words in
       rw (step_world g w x c e)
       (record {
-        in_range_lem = in_range_lem _ n.ranged;
-        slices_fit_lem = rw after.output_length (fits_slices n g (data_after write w.«data») s.memories.rom_size (after.data_length ∙ s.memories.data_size) refl);
+        in_range = in_range_lem _ n.ranged;
+        slices_fit = rw after.output_length (fits_slices n g (data_after write w.«data») s.memories.rom_size (after.data_length ∙ s.memories.data_size) refl);
         rom_words = k.rom_words;
         input_words = k.input_words;
         data_words = after.data_words;

@@ -110,12 +110,12 @@ module _ (g : Given) (w : World) (k : ℕ) (s : Stacks g w k) where
       ap (λ (n : ℕ). (run_of g n w).world) count_is
       ∙ first.same_end ∙ middle.same_end ∙ final.same_end ∙ run_ended g (step_of g u).world
 
-  from_zero : accumulation_of v.m ≡ from_zero
+  from_zero_lem : accumulation_of v.m ≡ from_zero
   unfolding accumulation_of from_zero
-  from_zero = start.accumulation ∙ rw (s.acc_zero, s.p_zero, s.ov_zero)
+  from_zero_lem = start.accumulation ∙ rw (s.acc_zero, s.p_zero, s.ov_zero)
 
   passes_come_to : (n j : ℕ) → n ≤ suc k → plus (suc k) 1 ≡ plus n j → accumulation_of (world_after g n v).m ≡ passed 3 w.m.ovm (pairs_read g n v) from_zero
-  passes_come_to n j l left = (passes n j l left).accumulation ∙ rw (start.pm ∙ s.shift_three, start.ovm, from_zero)
+  passes_come_to n j l left = (passes n j l left).accumulation ∙ rw (start.pm ∙ s.shift_three, start.ovm, from_zero_lem)
 
   pub comes_to : accumulation_of (last_world g w k).m ≡ stacked 3 w.m.ovm (words g w k)
   unfolding words v u

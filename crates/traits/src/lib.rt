@@ -138,6 +138,7 @@ fn sending_traits(port: u8, a: Address) -> Traits
     }
 }
 
+#[tactic(auto, unfolding(pages::specs::Traits::accumulator_traits))]
 fn accumulator_traits(i: Accumulator) -> Traits
     ensures { result ≡ accumulator_traits i }
 {
@@ -168,6 +169,7 @@ fn accumulator_traits(i: Accumulator) -> Traits
     }
 }
 
+#[tactic(auto, unfolding(pages::specs::Traits::multiplier_traits))]
 fn multiplier_traits(i: Multiplier) -> Traits
     ensures { result ≡ multiplier_traits i }
 {
@@ -194,6 +196,7 @@ fn multiplier_traits(i: Multiplier) -> Traits
     }
 }
 
+#[tactic(auto, unfolding(pages::specs::Traits::auxiliary_traits))]
 fn auxiliary_traits(i: Auxiliary) -> Traits
     ensures { result ≡ auxiliary_traits i }
 {
@@ -209,6 +212,7 @@ fn auxiliary_traits(i: Auxiliary) -> Traits
     }
 }
 
+#[tactic(auto, unfolding(pages::specs::Traits::branches_traits))]
 fn branches_traits(i: Branches) -> Traits
     ensures { result ≡ branches_traits i }
 {
@@ -228,6 +232,7 @@ fn branches_traits(i: Branches) -> Traits
     }
 }
 
+#[tactic(auto, unfolding(pages::specs::Traits::transfers_traits))]
 fn transfers_traits(i: Transfers) -> Traits
     ensures { result ≡ transfers_traits i }
 {
@@ -238,6 +243,7 @@ fn transfers_traits(i: Transfers) -> Traits
     }
 }
 
+#[tactic(auto, unfolding(pages::specs::Traits::modes_traits))]
 fn modes_traits(i: Modes) -> Traits
     ensures { result ≡ modes_traits i }
 {
@@ -255,6 +261,7 @@ fn modes_traits(i: Modes) -> Traits
     }
 }
 
+#[tactic(auto, unfolding(pages::specs::Traits::traits_of))]
 pub fn traits_of(i: Instruction) -> Traits
     ensures { result ≡ traits_of i }
 {

@@ -10,12 +10,14 @@ use machine::Machine;
 use pages::Effect;
 use passes::{copy_word, send_word, store_word};
 
+#[tactic(auto, unfolding(pages::specs::TransfersPages::DMOV))]
 fn dmov(w: u16, m: Machine) -> Effect
     ensures { result ≡ DMOV w m }
 {
     copy_word(m, w)
 }
 
+#[tactic(auto, unfolding(pages::specs::TransfersPages::IN))]
 fn input(next: u16, m: Machine) -> Effect
     ensures { result ≡ IN next m }
 {
@@ -24,6 +26,7 @@ fn input(next: u16, m: Machine) -> Effect
     store_word(n, next)
 }
 
+#[tactic(auto, unfolding(pages::specs::TransfersPages::OUT))]
 fn output(w: u16, m: Machine) -> Effect
     ensures { result ≡ OUT w m }
 {
@@ -33,6 +36,7 @@ fn output(w: u16, m: Machine) -> Effect
 }
 
 // The rule of each case, with the machine after the operand's modification, the data word that was read, and the next word of the input.
+#[tactic(auto, unfolding(pages::specs::TransfersRule::transfers_rule, pages::specs::TransfersPages::IN))]
 pub fn rule(i: Transfers, m: Machine, w: u16, next: u16) -> Effect
     ensures { result ≡ transfers_rule i m w next }
 {

@@ -5,11 +5,11 @@ use Rattle.guide_examples.proofs.case.Statement.{statement}
 use Rattle.guide_examples.proofs.case.Tie as tie
 
 abbrev invariant-loop : tie.invariant-loop
-invariant-loop data₀ rom₀ input₀ output₀ cells₀ summary₀ last₀ left₀ «data» rom input output cells summary last left =
+invariant-loop data₀ rom₀ input₀ output₀ cells₀ last₀ left₀ «data» rom input output cells last left =
     left ≤ 1000
 
 abbrev decreases-loop : tie.decreases-loop
-decreases-loop data₀ rom₀ input₀ output₀ cells₀ summary₀ last₀ left₀ «data» rom input output cells summary last left =
+decreases-loop data₀ rom₀ input₀ output₀ cells₀ last₀ left₀ «data» rom input output cells last left =
     left
 
 pub case-spec : {M : Type 1} → statement M

@@ -4,4 +4,4 @@ use borrow.Author.Rules.{rules}
 use Rattle.slices.proofs.part.Goals as goal
 
 pub returns : goal.returns
-returns c =     let a = c.args in record { result_value = part_shown a.from a.to a.words.now _ _ c.lesser-end.ensures c.lesser-start.ensures; ref_ptr_value = part_begins a.from a.to a.words _ _ c.lesser-end.ensures c.lesser-start.ensures, }
+returns c =     let a = c.args in record { result_value = part_shown a.from a.to a.words.now _ _ c.lesser-end.ensures c.lesser-start.ensures; ref_ptr_value = part_begins a.from a.to a.words _ _ c.lesser-end.ensures c.lesser-start.ensures }

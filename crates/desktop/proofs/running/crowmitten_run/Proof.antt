@@ -18,7 +18,7 @@ returns c =
     c.before.before.before.before.before.before.before.before.before.before.before.args.output.now
     (sym c.before.before.before.before.cells_pass.ensures ∙ not-true _ c.before.before.before.if1.true)
     c.refused_run.ensures.0
-    _
+    c.before.before.before.before.before.before.before.before.before.before.before.args.budget
     c.refused_run.ensures.1
 
 returns-2 : tie.Need-returns-2
@@ -33,7 +33,7 @@ returns-2 c =
     (sym c.before.before.before.before.before.before.before.before.before.before.before.before.before.before.before.before.cells_pass.ensures
     ∙ not-false _ c.before.before.before.before.before.before.before.before.before.before.before.before.before.before.before.if1.false)
     c.before.before.before.before.before.before.before.before.before.before.before.before.before.machine_of.ensures
-    _ c.before.before.before.before.before.before.before.before.before.before.run.result
+    c.before.before.before.before.before.before.before.before.before.before.before.before.before.before.before.before.before.before.before.before.before.before.before.args.budget c.before.before.before.before.before.before.before.before.before.before.run.result
     c.before.before.before.before.before.before.before.before.before.before.run.ensures.0
     c.before.before.put_run.ensures.1.0
     c.before.before.put_run.ensures.1.1

@@ -10,16 +10,16 @@ use Rattle.desktop.proofs.running.crowmitten_run_with.Tie as tie
 returns : tie.Need-returns
 returns c =
     results_refused
-    (given c.before.before.before.before.before.before.before.before.before.before.before.args.rom.now c.before.before.before.before.before.before.before.before.before.before.before.args.input.now) c.before.before.before.before.before.before.before.before.before.before.before.args.budget
-    c.before.before.before.before.before.before.before.before.before.before.before.args.cells.now c.before.before.before.before.before.before.before.before.before.before.before.args.«data».now c.before.before.before.before.before.before.before.before.before.before.before.args.output.now c.before.before.before.before.before.before.before.before.before.before.before.args.summary.now c.before.before.before.before.before.before.before.before.before.before.before.args.results.now
+    (given c.before.before.before.before.before.before.before.before.before.before.args.rom.now c.before.before.before.before.before.before.before.before.before.before.args.input.now) c.before.before.before.before.before.before.before.before.before.before.args.budget
+    c.before.before.before.before.before.before.before.before.before.before.args.cells.now c.before.before.before.before.before.before.before.before.before.before.args.«data».now c.before.before.before.before.before.before.before.before.before.before.args.output.now c.before.before.before.before.before.before.before.before.before.before.args.results.now
     (sym c.before.before.results_fit.ensures ∙ not-true _ c.before.if1.true)
     c.number_of.ensures
 
 returns-2 : tie.Need-returns-2
 returns-2 c =
     run_with_refused
-    (given c.before.before.before.before.before.before.before.before.before.before.before.before.before.before.before.before.before.before.before.args.rom.now c.before.before.before.before.before.before.before.before.before.before.before.before.before.before.before.before.before.before.before.args.input.now) c.before.before.before.before.before.before.before.before.before.before.before.before.before.before.before.before.before.before.before.args.budget
-    c.before.before.before.before.before.before.before.before.before.before.before.before.before.before.before.before.before.before.before.args.cells.now c.before.before.before.before.before.before.before.before.before.before.before.before.before.before.before.before.before.before.before.args.«data».now c.before.before.before.before.before.before.before.before.before.before.before.before.before.before.before.before.before.before.before.args.output.now c.before.before.before.before.before.before.before.before.before.before.before.before.before.before.before.before.before.before.before.args.summary.now c.before.before.before.before.before.before.before.before.before.before.before.before.before.before.before.before.before.before.before.args.results.now
+    (given c.before.before.before.before.before.before.before.before.before.before.before.before.before.before.before.before.before.before.args.rom.now c.before.before.before.before.before.before.before.before.before.before.before.before.before.before.before.before.before.before.args.input.now) c.before.before.before.before.before.before.before.before.before.before.before.before.before.before.before.before.before.before.args.budget
+    c.before.before.before.before.before.before.before.before.before.before.before.before.before.before.before.before.before.before.args.cells.now c.before.before.before.before.before.before.before.before.before.before.before.before.before.before.before.before.before.before.args.«data».now c.before.before.before.before.before.before.before.before.before.before.before.before.before.before.before.before.before.before.args.output.now c.before.before.before.before.before.before.before.before.before.before.before.before.before.before.before.before.before.before.args.results.now
     (sym c.before.before.before.before.before.before.before.before.before.before.results_fit.ensures ∙ not-false _ c.before.before.before.before.before.before.before.before.before.if1.false)
     (sym c.before.before.before.before.before.before.before.cells_pass.ensures ∙ not-true _ c.before.before.before.before.before.before.if2.true)
     c.cells_number.ensures
@@ -28,15 +28,14 @@ returns-2 c =
 returns-3 : tie.Need-returns-3
 returns-3 c =
     run_with_made
-    (given c.before.before.before.before.before.before.before.before.before.before.before.before.before.before.before.before.before.before.before.before.before.before.before.before.before.before.before.before.before.before.before.before.before.before.before.args.rom.now c.before.before.before.before.before.before.before.before.before.before.before.before.before.before.before.before.before.before.before.before.before.before.before.before.before.before.before.before.before.before.before.before.before.before.before.args.input.now) c.before.before.before.before.before.before.before.before.before.before.before.before.before.before.before.before.before.before.before.before.before.before.before.before.before.before.before.before.before.before.before.before.before.before.before.args.budget
-    c.before.before.before.before.before.before.before.before.before.before.before.before.before.before.before.before.before.before.before.before.before.before.before.before.before.before.before.before.before.before.before.before.before.before.before.args.cells.now c.before.before.before.before.before.before.before.before.before.before.before.before.before.before.before.before.before.before.before.before.before.before.before.before.before.before.before.before.before.before.before.before.before.before.before.args.«data».now c.before.before.before.before.before.before.before.before.before.before.before.before.before.before.before.before.before.before.before.before.before.before.before.before.before.before.before.before.before.before.before.before.before.before.before.args.output.now c.before.before.before.before.before.before.before.before.before.before.before.before.before.before.before.before.before.before.before.before.before.before.before.before.before.before.before.before.before.before.before.before.before.before.before.args.summary.now c.before.before.before.before.before.before.before.before.before.before.before.before.before.before.before.before.before.before.before.before.before.before.before.before.before.before.before.before.before.before.before.before.before.before.before.args.results.now
-    (sym c.before.before.before.before.before.before.before.before.before.before.before.before.before.before.before.before.before.before.before.before.before.before.before.before.before.before.results_fit.ensures ∙ not-false _ c.before.before.before.before.before.before.before.before.before.before.before.before.before.before.before.before.before.before.before.before.before.before.before.before.before.if1.false)
-    (sym c.before.before.before.before.before.before.before.before.before.before.before.before.before.before.before.before.before.before.before.before.before.before.before.cells_pass.ensures ∙ not-false _ c.before.before.before.before.before.before.before.before.before.before.before.before.before.before.before.before.before.before.before.before.before.before.if2.false)
-    c.before.before.before.before.before.before.before.before.before.before.before.before.before.before.before.before.before.before.before.before.machine_of.ensures
-    c.before.before.before.before.before.before.before.before.before.before.before.before.before.before.before.before.run_with.result
-    c.before.before.before.before.before.before.before.before.before.before.before.before.before.before.before.before.run_with.ensures.0
-    c.before.before.before.before.before.before.before.before.before.before.before.before.before.before.before.before.run_with.ensures.1.0
-    c.before.before.before.before.before.before.before.before.before.before.before.before.before.before.before.before.run_with.ensures.1.1
+    (given c.before.before.before.before.before.before.before.before.before.before.before.before.before.before.before.before.before.before.before.before.before.before.before.before.before.before.before.before.before.before.before.args.rom.now c.before.before.before.before.before.before.before.before.before.before.before.before.before.before.before.before.before.before.before.before.before.before.before.before.before.before.before.before.before.before.before.args.input.now) c.before.before.before.before.before.before.before.before.before.before.before.before.before.before.before.before.before.before.before.before.before.before.before.before.before.before.before.before.before.before.before.args.budget
+    c.before.before.before.before.before.before.before.before.before.before.before.before.before.before.before.before.before.before.before.before.before.before.before.before.before.before.before.before.before.before.before.args.cells.now c.before.before.before.before.before.before.before.before.before.before.before.before.before.before.before.before.before.before.before.before.before.before.before.before.before.before.before.before.before.before.before.args.«data».now c.before.before.before.before.before.before.before.before.before.before.before.before.before.before.before.before.before.before.before.before.before.before.before.before.before.before.before.before.before.before.before.args.output.now c.before.before.before.before.before.before.before.before.before.before.before.before.before.before.before.before.before.before.before.before.before.before.before.before.before.before.before.before.before.before.before.args.results.now
+    (sym c.before.before.before.before.before.before.before.before.before.before.before.before.before.before.before.before.before.before.before.before.before.before.before.results_fit.ensures ∙ not-false _ c.before.before.before.before.before.before.before.before.before.before.before.before.before.before.before.before.before.before.before.before.before.before.if1.false)
+    (sym c.before.before.before.before.before.before.before.before.before.before.before.before.before.before.before.before.before.before.before.before.cells_pass.ensures ∙ not-false _ c.before.before.before.before.before.before.before.before.before.before.before.before.before.before.before.before.before.before.before.if2.false)
+    c.before.before.before.before.before.before.before.before.before.before.before.before.before.before.before.before.before.machine_of.ensures
+    c.before.before.before.before.before.before.before.before.before.before.before.before.before.before.run.result
+    c.before.before.before.before.before.before.before.before.before.before.before.before.before.before.run.ensures.0
+    c.before.before.before.before.before.before.before.before.before.before.before.before.before.before.run.ensures.1
     c.before.before.before.before.before.before.put-results2.ensures
     c.before.before.put_step.ensures.1
     c.before.before.put_step.ensures.0
@@ -59,7 +58,6 @@ crowmitten-run-with-spec =
     (λ c κs. search rules)
     (λ c κs. search rules)
     (λ c κs. search rules)
-    (λ c. search rules)
     (λ c. search rules)
     (λ c. search rules)
     (λ c. search rules)
