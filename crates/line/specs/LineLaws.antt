@@ -36,7 +36,7 @@ line_put_lem : (answer steps pc acc ov : ℕ) (words : List ℕ)
     → parted (decimal answer ∷ decimal steps ∷ hexadecimal 4 pc ∷ hexadecimal 8 acc ∷ decimal ov ∷ map (hexadecimal 4) words) ≡ line_put answer steps pc acc ov words
 unfolding parted line_put cell_fields
 line_put_lem answer steps pc acc ov words =
-    rw (parted_words, append_assoc (decimal ov))
+    rw (parted_words (decimal ov) words, append_assoc (decimal ov))
     (five_fields (decimal answer) (decimal steps) (hexadecimal 4 pc) (hexadecimal 8 acc) (decimal ov) (word_fields words) (newline ∷ []))
 
 -- what is put down for a run, and for a refused file

@@ -1,0 +1,5 @@
+use Rattle.line.specs.LineLaws.{refused_put}
+use Rattle.line.proofs.refused_line.Goals as goal
+
+pub returns : goal.returns
+returns c = refused_put _ _ c.number-refused.ensures c.fit_number.ensures
