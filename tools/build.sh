@@ -15,7 +15,7 @@ build_program() { build "$1" "crates/$1/out/$1" make_program; }
 # The library NAME for C is built from the crate NAME_c, which has its exports.
 build_library() { build "$1_c" "target/staticlib/lib$1.a" make_library; }
 
-# `rt run` builds a program and then runs it once, on the crate's own input.
+# `rt run` builds a program and then runs it once, here on no input.
 make_program() { # NAME FILE
     (cd "crates/$1" && rt run)
 }
