@@ -38,10 +38,8 @@ fn digit(b: u8) -> u32 {
 // The number that hexadecimal digits spell.
 fn number(digits: &[u8]) -> u32 {
     let mut n: u32 = 0;
-    let mut i = 0;
-    while i < digits.len() {
-        n = n % 0x10000000 * 16 + digit(digits[i]) % 16;
-        i += 1;
+    for b in digits {
+        n = n % 0x10000000 * 16 + digit(*b) % 16;
     }
     n
 }
