@@ -1,5 +1,5 @@
 -- What ADDH, SUBH, SUBC, NEG and ABS leave, by their pages.
-use Rattle.std.specs.Prelude.{cond, ℕ, ◌+◌, ◌*◌, ◌%◌, ◌^◌, ltb, eqb, ℤ, pos, neg_ℤ, ◌+ℤ◌, ◌-ℤ◌, nat_abs}
+use Rattle.std.specs.Prelude.{cond, ℕ, ◌+◌, ◌*◌, ◌%◌, ◌^◌, ltb, eqb, pos, neg_ℤ, ◌+ℤ◌, ◌-ℤ◌, nat_abs}
 use Rattle.alu.specs.Word.{signed, low}
 use Rattle.alu.specs.Sums.{holds, settled, carry, no_borrow}
 use Rattle.alu.specs.declared.Sum.{Sum}

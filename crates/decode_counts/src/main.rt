@@ -4,8 +4,7 @@
 #![tactic(auto)]
 
 use instructions::Decoded;
-
-const STDOUT: i32 = 1;
+use std::{fmt, io};
 
 #[derive(Clone, Copy)]
 struct Counts {
@@ -27,13 +26,13 @@ impl Counts {
     fn with(mut self, d: Decoded) -> Counts {
         match d {
             Decoded::Built(_) => {
-                self.built = std::num::wrapping_add_u64(self.built, 1);
+                self.built = self.built.wrapping_add(1);
             }
             Decoded::Unbuilt => {
-                self.unbuilt = std::num::wrapping_add_u64(self.unbuilt, 1);
+                self.unbuilt = self.unbuilt.wrapping_add(1);
             }
             Decoded::Nothing => {
-                self.nothing = std::num::wrapping_add_u64(self.nothing, 1);
+                self.nothing = self.nothing.wrapping_add(1);
             }
         }
         self
@@ -41,19 +40,20 @@ impl Counts {
 
     fn plus(self, more: Counts) -> Counts {
         Counts {
-            built: std::num::wrapping_add_u64(self.built, more.built),
-            unbuilt: std::num::wrapping_add_u64(self.unbuilt, more.unbuilt),
-            nothing: std::num::wrapping_add_u64(self.nothing, more.nothing),
+            built: self.built.wrapping_add(more.built),
+            unbuilt: self.unbuilt.wrapping_add(more.unbuilt),
+            nothing: self.nothing.wrapping_add(more.nothing),
         }
     }
+}
 
-    fn print(self) {
-        io::print_decimal(STDOUT, self.built);
-        io::write_all(STDOUT, b" ");
-        io::print_decimal(STDOUT, self.unbuilt);
-        io::write_all(STDOUT, b" ");
-        io::print_decimal(STDOUT, self.nothing);
-        io::write_all(STDOUT, b"\n");
+// The three counts, with one space between.
+impl fmt::Display for Counts {
+    fn fmt<W: fmt::Write>(&self, f: &mut fmt::Formatter<W>) -> fmt::Result {
+        let built = self.built;
+        let unbuilt = self.unbuilt;
+        let nothing = self.nothing;
+        write!(f, "{built} {unbuilt} {nothing}")
     }
 }
 
@@ -69,18 +69,16 @@ fn counts_of(upper: u16) -> Counts {
     counts
 }
 
-fn print_line(upper: u16) -> Counts {
-    io::print_hex(STDOUT, upper as u64, 2);
-    io::write_all(STDOUT, b" ");
+fn print_line(rt: &impl Print, upper: u16) -> io::Result<Counts> {
     let counts = counts_of(upper);
-    counts.print();
-    counts
+    println!(rt; "{upper:02x} {counts}")?;
+    Ok(counts)
 }
 
-fn main() {
+fn main(rt: HostRuntime) -> io::Result<()> {
     let mut total = Counts::none();
     for upper in 0..256 {
-        total = total.plus(print_line(upper));
+        total = total.plus(print_line(&rt, upper)?);
     }
-    total.print();
+    println!(rt; "{total}")
 }

@@ -1,69 +1,70 @@
+// Prints the name and the line of each example file.
 #![tactic(auto)]
 
-// Prints the name and the line of each example file.
-const STDOUT: i32 = 1;
+use std::fs::File;
+use std::io;
+use std::io::Read;
+use std::rt::Files;
 
-fn print_replay(fd: i32) {
+fn print_replay(rt: &impl Print, reader: &mut impl Read) -> io::Result<()> {
     let mut file = [0; 16401];
-    let count = io::read_full(fd, &mut file);
+    let count = filling::fill(reader, &mut file)?;
     let mut line = [0; 5145];
     let end = replaying::replayed(&file, count, &mut line);
-    io::write_all(STDOUT, &line[..end]);
+    rt.write_all(&line[..end])
 }
 
-fn show(name: &[u8]) {
-    io::write_all(STDOUT, name);
-    io::write_all(STDOUT, b": ");
-    let fd = os::open_read(name);
-    print_replay(fd);
-    libc::close(fd);
+fn show(rt: &(impl Files + Print), name: &str) -> io::Result<()> {
+    print!(rt; "{name}: ")?;
+    let mut file = File::open(rt, name)?;
+    print_replay(rt, &mut file)
 }
 
 // Document 01's own file, and stacks of 127 and 128 frames with holding and without.
-fn show_stacks() {
-    show(b"first");
-    show(b"frames-127-held");
-    show(b"frames-127-free");
-    show(b"frames-128-held");
-    show(b"frames-128-free");
+fn show_stacks(rt: &(impl Files + Print)) -> io::Result<()> {
+    show(rt, "first")?;
+    show(rt, "frames-127-held")?;
+    show(rt, "frames-127-free")?;
+    show(rt, "frames-128-held")?;
+    show(rt, "frames-128-free")
 }
 
-fn show_programs() {
-    show(b"convolution");
-    show(b"division");
-    show(b"copy");
-    show(b"copy-whole");
+fn show_programs(rt: &(impl Files + Print)) -> io::Result<()> {
+    show(rt, "convolution")?;
+    show(rt, "division")?;
+    show(rt, "copy")?;
+    show(rt, "copy-whole")
 }
 
 // The largest file, and one whose line is the longest.
-fn show_limits() {
-    show(b"largest");
-    show(b"longest");
+fn show_limits(rt: &(impl Files + Print)) -> io::Result<()> {
+    show(rt, "largest")?;
+    show(rt, "longest")
 }
 
 // One for each refusal of a step that a file can reach.
-fn show_refused_steps() {
-    show(b"refused-3");
-    show(b"refused-4");
-    show(b"refused-5");
-    show(b"refused-6");
-    show(b"refused-7");
-    show(b"refused-9");
-    show(b"refused-10");
+fn show_refused_steps(rt: &(impl Files + Print)) -> io::Result<()> {
+    show(rt, "refused-3")?;
+    show(rt, "refused-4")?;
+    show(rt, "refused-5")?;
+    show(rt, "refused-6")?;
+    show(rt, "refused-7")?;
+    show(rt, "refused-9")?;
+    show(rt, "refused-10")
 }
 
-fn show_refused_files() {
-    show(b"refused-20");
-    show(b"refused-21");
-    show(b"refused-22");
-    show(b"refused-22-largest");
-    show(b"refused-22-long");
+fn show_refused_files(rt: &(impl Files + Print)) -> io::Result<()> {
+    show(rt, "refused-20")?;
+    show(rt, "refused-21")?;
+    show(rt, "refused-22")?;
+    show(rt, "refused-22-largest")?;
+    show(rt, "refused-22-long")
 }
 
-fn main() {
-    show_stacks();
-    show_programs();
-    show_limits();
-    show_refused_steps();
-    show_refused_files();
+fn main(rt: HostRuntime) -> io::Result<()> {
+    show_stacks(&rt)?;
+    show_programs(&rt)?;
+    show_limits(&rt)?;
+    show_refused_steps(&rt)?;
+    show_refused_files(&rt)
 }

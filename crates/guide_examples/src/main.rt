@@ -9,10 +9,9 @@ ghost use Rattle.std.specs.Prelude.{◌<◌};
 
 use desktop::running::{crowmitten_reset, crowmitten_run, crowmitten_run_with, crowmitten_step};
 use desktop::{CELLS, RESULTS};
-
-const STDIN: i32 = 0;
-
-const STDOUT: i32 = 1;
+use filling::fill;
+use std::io;
+use std::io::Read;
 
 // What one line asks for.
 #[derive(Clone, Copy)]
@@ -180,8 +179,15 @@ fn run_with_results(
     }
 }
 
+// A number in hexadecimal, with zeros in front up to a width of 1 to 16 digits.
+fn print_hex(rt: &impl Print, n: u32, width: u32) -> io::Result<()> {
+    let width = width.clamp(1, 16) as usize;
+    print!(rt; "{n:0width$x}")
+}
+
 // What a line asks for; how the last step or run ended.
 fn act(
+    rt: &impl Print,
     a: Line,
     last: Run,
     data: &mut [u16; 4096],
@@ -189,57 +195,58 @@ fn act(
     input: &mut [u16; 4],
     output: &mut [u16; 4],
     cells: &mut [u32; CELLS],
-) -> Run {
+) -> io::Result<Run> {
     if a.kind == b'T' {
-        return step_cells(data, rom, input, output, cells);
+        return Ok(step_cells(data, rom, input, output, cells));
     }
     if a.kind == b'R' {
-        return run_cells(word_of(a.value), data, rom, input, output, cells);
+        return Ok(run_cells(word_of(a.value), data, rom, input, output, cells));
     }
     if a.kind == b'W' {
-        return run_with_results(word_of(a.value), data, rom, input, output, cells);
+        return Ok(run_with_results(word_of(a.value), data, rom, input, output, cells));
     }
     if a.kind == b'S' {
         store(a, data, rom, input, output, cells);
-        return last;
+        return Ok(last);
     }
     if a.kind == b'P' {
         let shown = place_of(a.place, last, data, rom, output, cells);
-        io::print_hex(STDOUT, shown as u64, a.value as usize);
+        print_hex(rt, shown, a.value)?;
     }
-    last
+    Ok(last)
 }
 
 // The line's label: a case's name, or a cell's.
-fn print_label(kind: u8, text: [u8; 32]) {
+fn print_label(rt: &impl Print, kind: u8, text: [u8; 32]) -> io::Result<()> {
     if kind == b'N' {
-        io::write_all(STDOUT, &text[16..31]);
+        rt.write_all(&text[16..31])?;
     }
     if kind == b'P' {
-        io::write_all(STDOUT, &text[16..23]);
+        rt.write_all(&text[16..23])?;
     }
     if kind == b'E' {
-        io::write_all(STDOUT, b"\n");
+        rt.write_all(b"\n")?;
     }
+    Ok(())
 }
 
 // The next line, its label printed; where there is none, the end of a case.
-fn next_line() -> Line {
+fn next_line(rt: &impl Print, reader: &mut impl Read) -> io::Result<Line> {
     let mut text = [0u8; 32];
-    if io::read_full(STDIN, &mut text) < 32 {
-        return Line {
+    if fill(reader, &mut text)? < 32 {
+        return Ok(Line {
             kind: b'E',
             place: 0,
             value: 0,
-        };
+        });
     }
     let kind = text[0];
-    print_label(kind, text);
-    Line {
+    print_label(rt, kind, text)?;
+    Ok(Line {
         kind,
         place: number(&text[2..6]),
         value: number(&text[7..15]),
-    }
+    })
 }
 
 // How many lines a case may still have: none after its end.
@@ -251,7 +258,7 @@ fn lines_left(left: u32, kind: u8) -> u32
 }
 
 // One case, with memories of its own that are all 0. It has at most 1000 lines.
-fn case() {
+fn case(rt: &impl Print, reader: &mut impl Read) -> io::Result<()> {
     let mut data = [0u16; 4096];
     let mut rom = [0u16; 4096];
     let mut input = [0u16; 4];
@@ -266,9 +273,10 @@ fn case() {
     };
     let mut left: u32 = 1000;
     while 0 < left {
-        let a = next_line();
+        let a = next_line(rt, reader)?;
         left = lines_left(left, a.kind);
         last = act(
+            rt,
             a,
             last,
             &mut data,
@@ -276,15 +284,16 @@ fn case() {
             &mut input,
             &mut output,
             &mut cells,
-        );
+        )?;
     }
+    Ok(())
 }
 
 // At most 600 cases: each one that is not there takes its time too.
-fn main() {
-    let mut left: u32 = 600;
-    while 0 < left {
-        left -= 1;
-        case();
+fn main(rt: HostRuntime) -> io::Result<()> {
+    let mut stdin = rt.stdin();
+    for _ in 0..600 {
+        case(&rt, &mut stdin)?;
     }
+    Ok(())
 }

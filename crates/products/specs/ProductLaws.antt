@@ -1,8 +1,8 @@
 -- The product and the product shift, in parts that omega reads.
-use Rattle.std.specs.Prelude.{◌≡◌, refl, ℕ, zero, suc, ◌+◌, ◌*◌, ◌-◌, ◌/◌, ◌%◌, ◌^◌, ◌≤◌, ◌<◌, ℤ, pos, negsuc, ◌*ℤ◌}
+use Rattle.std.specs.Prelude.{◌≡◌, refl, ℕ, zero, suc, ◌+◌, ◌*◌, ◌/◌, ◌%◌, ◌^◌, ◌≤◌, ◌<◌, ℤ, pos, negsuc, ◌*ℤ◌}
 use Rattle.std.proofs.Common.{sym, ◌∙◌, ap, ap₂, arith, mul-le-mul, pow-add}
 use Rattle.std.specs.Int.Signed.{shr_z}
-use Rattle.alu.specs.Whole.{up, dn, part, neg_is, times_is, one_times}
+use Rattle.alu.specs.Whole.{up, dn, neg_is, times_is, one_times}
 use Rattle.alu.specs.Word.{signed, low}
 use Rattle.alu.specs.WordLaws.{signed_is, low_is, extended_is}
 use Rattle.alu.specs.Products.{product, product_word, long_constant, left_by, right_by, product_shift, shifted_product}

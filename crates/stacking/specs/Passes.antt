@@ -9,7 +9,6 @@ use Rattle.machine.specs.declared.Machine.{Machine}
 use Rattle.answers.specs.Numbers.{is_done}
 use Rattle.answers.specs.NumberLaws.{done_is}
 use Rattle.instructions.specs.declared.Instruction.{Instruction}
-use Rattle.instructions.specs.declared.Instruction.TheVariants as Family
 use Rattle.instructions.specs.declared.Decoded.TheVariants.{Built}
 use Rattle.pages.specs.declared.Operand.TheVariants.{At}
 use Rattle.pages.specs.Traits.{traits_of, multiplier_traits}

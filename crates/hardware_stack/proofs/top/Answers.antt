@@ -1,6 +1,5 @@
 use mathlib.Core.Path.{refl}
 use Rattle.hardware_stack.specs.Stack.{top_of}
-use borrow.Author.Rules.{rules}
 use Rattle.hardware_stack.proofs.top.Goals as goal
 
 pub returns : goal.returns

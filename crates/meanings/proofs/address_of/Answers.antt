@@ -1,6 +1,5 @@
 use borrow.Author.Tests.{lt-ltb, le-ltb}
 use Rattle.instructions.specs.Encoding.{address_mode_of}
-use borrow.Author.Rules.{rules}
 use Rattle.meanings.proofs.address_of.Goals as goal
 
 pub returns-then-low-lt128 : goal.returns-then-low-lt128

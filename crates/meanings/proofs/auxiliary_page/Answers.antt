@@ -32,6 +32,6 @@ pub returns-in-48 : goal.returns-in-48
 returns-in-48 c = rw c.in-48.is (page_means 48 _ _ (ap (λ (n : ℕ). auxiliary (Sbrk (n % 256))) (sym (div-one c.args.w))))
 
 pub returns-in_default : goal.returns-in_default
-returns-in_default c =     rw
+returns-in_default c = rw
     (last_key 42 7 c.args.page c.in_default.in_default-own.rest (search rules) (search rules))
     (page_means 49 _ _ (ap (λ (n : ℕ). auxiliary (Ldpk (n % 512))) (sym (div-one c.args.w))))

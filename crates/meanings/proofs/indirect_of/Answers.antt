@@ -1,5 +1,4 @@
 use Rattle.instructions.specs.Encoding.{indirect_of}
-use borrow.Author.Rules.{rules}
 use Rattle.meanings.proofs.indirect_of.Goals as goal
 
 pub returns : goal.returns

@@ -1,7 +1,6 @@
 -- Not routine: the list has 133 pages, and a place past its end means Nothing, whatever the word.
 use mathlib.Core.Path.{sym}
 use Rattle.instructions.specs.Past.{past_pages}
-use borrow.Author.Rules.{rules}
 use Rattle.meanings.proofs.meaning.Goals as goal
 
 pub returns : goal.returns

@@ -65,6 +65,6 @@ pub returns-in-40 : goal.returns-in-40
 returns-in-40 c = rw c.in-40.is (page_means 40 _ _ refl)
 
 pub returns-in_default : goal.returns-in_default
-returns-in_default c =     rw
+returns-in_default c = rw
     (last_key 23 18 c.args.page c.in_default.in_default-own.rest (search rules) (search rules))
     (page_means 41 _ _ (ap (λ (n : ℕ). multiplier (Spm (n % 4))) (sym (div-one c.args.w))))

@@ -16,6 +16,6 @@ pub returns-in-63 : goal.returns-in-63
 returns-in-63 c = rw c.in-63.is (page_means 63 _ _ (ap (λ (a : Address). transfers (In (c.args.w / 256 % 16) a)) c.address_of-a.ensures))
 
 pub returns-in_default : goal.returns-in_default
-returns-in_default c =     rw
+returns-in_default c = rw
     (last_key 62 2 c.args.page c.in_default.in_default-own.rest (search rules) (search rules))
     (page_means 64 _ _ (ap (λ (a : Address). transfers (Out (c.args.w / 256 % 16) a)) c.address_of-a.ensures))

@@ -3,7 +3,6 @@ use mathlib.Core.Path.{◌∙◌, ap₂}
 use Prim.Native.Nat.{ℕ, ◌*◌, ◌%◌, ◌^◌}
 use native.Mathlib.Omega.{arith}
 use Rattle.products.specs.ProductLaws.{product_is, product_fits}
-use borrow.Author.Rules.{rules}
 use Rattle.products.proofs.product.Goals as goal
 
 pub overflow_mul-result : goal.overflow_mul-result

@@ -1,6 +1,5 @@
 use mathlib.Core.Path.{◌∙◌}
 use Rattle.alu.specs.Products.{product_high}
-use borrow.Author.Rules.{rules}
 use Rattle.products.proofs.product_high.Goals as goal
 
 pub returns : goal.returns

@@ -1,6 +1,5 @@
 use mathlib.Core.Path.{◌∙◌}
 use Rattle.alu.specs.Products.{product_low}
-use borrow.Author.Rules.{rules}
 use Rattle.products.proofs.product_low.Goals as goal
 
 pub returns : goal.returns

@@ -2,7 +2,6 @@
 use mathlib.Core.Path.{◌∙◌}
 use native.Mathlib.Omega.{arith}
 use Rattle.products.specs.ProductLaws.{amount_le, scaled_is}
-use borrow.Author.Rules.{rules}
 use Rattle.products.proofs.shift_product.Goals as goal
 
 pub scale-requires : goal.scale-requires

@@ -3,7 +3,6 @@ use native.Mathlib.Omega.{arith}
 use mathlib.Core.Path.{◌∙◌, ap}
 use mathlib.Core.Bool.{not}
 use Rattle.board.specs.RegionLaws.{no_move, next_asked}
-use borrow.Author.Rules.{rules}
 use Rattle.regions.proofs.move_allowed.Goals as goal
 
 pub returns-then-not-region_on_chip-address : goal.returns-then-not-region_on_chip-address

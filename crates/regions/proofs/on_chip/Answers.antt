@@ -1,5 +1,4 @@
 use Rattle.board.specs.Regions.{on_chip}
-use borrow.Author.Rules.{rules}
 use Rattle.regions.proofs.on_chip.Goals as goal
 
 pub returns : goal.returns

@@ -1,5 +1,4 @@
 use Rattle.board.specs.Regions.{program_present}
-use borrow.Author.Rules.{rules}
 use Rattle.regions.proofs.program_present.Goals as goal
 
 pub returns-then-in_rom : goal.returns-then-in_rom

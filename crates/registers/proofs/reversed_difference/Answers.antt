@@ -1,4 +1,4 @@
-use Rattle.std.proofs.Common.{arith, rules}
+use Rattle.std.proofs.Common.{arith}
 use Rattle.alu.specs.ReversedLaws.{difference_inverted}
 use Rattle.registers.proofs.reversed_difference.Goals as goal
 

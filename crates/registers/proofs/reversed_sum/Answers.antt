@@ -1,7 +1,7 @@
 -- Not routine: the sum so far and the rest still make the whole sum, and the rest at least halves.
 use Rattle.std.proofs.Common.{arith}
 use lib.Bits.{and_le_r}
-use Rattle.registers.specs.CarryLaws.{Adding, adding_begins, adding_goes_on, adding_ends}
+use Rattle.registers.specs.CarryLaws.{adding_begins, adding_goes_on, adding_ends}
 use Rattle.registers.proofs.reversed_sum.Goals as goal
 
 pub loop-rest-init : goal.loop-rest-init

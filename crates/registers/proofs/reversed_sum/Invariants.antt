@@ -1,6 +1,4 @@
-use Rattle.std.proofs.Common.{arith}
-use lib.Bits.{and_le_r}
-use Rattle.registers.specs.CarryLaws.{Adding, adding_begins, adding_goes_on, adding_ends}
+use Rattle.registers.specs.CarryLaws.{Adding}
 use Rattle.registers.proofs.reversed_sum.Given as goal
 
 abbrev pub invariant-loop-rest : goal.invariant-loop-rest

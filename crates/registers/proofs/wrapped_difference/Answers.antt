@@ -1,5 +1,5 @@
 -- Not routine: the library promises only that the result plus `b` is `a` modulo 65,536, which is so for just one 16-bit number.
-use Rattle.std.proofs.Common.{arith, rules}
+use Rattle.std.proofs.Common.{arith}
 use Rattle.alu.specs.RegisterLaws.{difference_is}
 use Rattle.registers.proofs.wrapped_difference.Goals as goal
 

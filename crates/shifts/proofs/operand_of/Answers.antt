@@ -2,7 +2,6 @@
 use mathlib.Core.Path.{◌∙◌}
 use native.Mathlib.Omega.{arith}
 use Rattle.shifts.specs.ShiftLaws.{operand_signed, operand_plain}
-use borrow.Author.Rules.{rules}
 use Rattle.shifts.proofs.operand_of.Goals as goal
 
 pub returns-then-sxm-eq1 : goal.returns-then-sxm-eq1

@@ -1,7 +1,6 @@
 -- Not routine: half the word, with the top bit put in again where it is set, is the signed number shifted right with its sign.
 use native.Mathlib.Omega.{arith}
 use Rattle.shifts.specs.ShiftLaws.{right_signed, right_plain}
-use borrow.Author.Rules.{rules}
 use Rattle.shifts.proofs.right_by_one.Goals as goal
 
 pub returns-then-sxm-eq1 : goal.returns-then-sxm-eq1

@@ -2,7 +2,6 @@
 use mathlib.Core.Path.{sym}
 use native.Mathlib.Omega.{arith}
 use Rattle.shifts.specs.ShiftLaws.{all_lost}
-use borrow.Author.Rules.{rules}
 use Rattle.shifts.proofs.shift_left.Goals as goal
 
 pub returns-then-s-ge32 : goal.returns-then-s-ge32

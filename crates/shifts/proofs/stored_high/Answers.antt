@@ -1,6 +1,5 @@
 use mathlib.Core.Path.{◌∙◌}
 use Rattle.alu.specs.Shifts.{stored_high}
-use borrow.Author.Rules.{rules}
 use Rattle.shifts.proofs.stored_high.Goals as goal
 
 pub returns : goal.returns

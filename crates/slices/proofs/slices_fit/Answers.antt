@@ -1,5 +1,4 @@
 use Rattle.board.specs.Slices.{slices_fit}
-use borrow.Author.Rules.{rules}
 use Rattle.slices.proofs.slices_fit.Goals as goal
 
 pub returns : goal.returns

@@ -2,7 +2,6 @@
 use mathlib.Core.Path.{sym}
 use native.Mathlib.Omega.{arith}
 use Rattle.board.specs.SliceLaws.{data_page_put, data_page_missing}
-use borrow.Author.Rules.{rules}
 use Rattle.slices.proofs.store_word.Goals as goal
 
 pub returns-then-end-data : goal.returns-then-end-data

@@ -2,7 +2,6 @@
 use mathlib.Core.Path.{sym}
 use native.Mathlib.Omega.{arith}
 use lib.ListN.{get_or-eq_default}
-use borrow.Author.Rules.{rules}
 use Rattle.slices.proofs.word_at.Goals as goal
 
 pub returns-else-i-words : goal.returns-else-i-words

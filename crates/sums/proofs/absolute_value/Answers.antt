@@ -1,7 +1,6 @@
 -- Not routine: below 2^31 the word is its own absolute value and cannot overflow; from there on its absolute value is its negation.
 use native.Mathlib.Omega.{arith}
 use Rattle.sums.specs.PageSumLaws.{absolute_same, absolute_negated}
-use borrow.Author.Rules.{rules}
 use Rattle.sums.proofs.absolute_value.Goals as goal
 
 pub returns-then-acc-lt2147483648 : goal.returns-then-acc-lt2147483648

@@ -2,7 +2,6 @@
 use mathlib.Core.Path.{◌∙◌}
 use Rattle.alu.specs.Sums.{added, carry}
 use Rattle.sums.specs.SumLaws.{add_settled}
-use borrow.Author.Rules.{rules}
 use Rattle.sums.proofs.add.Goals as goal
 
 pub returns : goal.returns

@@ -1,6 +1,5 @@
 use mathlib.Core.Path.{refl}
 use Rattle.alu.specs.PageSums.{in_high_half}
-use borrow.Author.Rules.{rules}
 use Rattle.sums.proofs.in_high_half.Goals as goal
 
 pub returns : goal.returns

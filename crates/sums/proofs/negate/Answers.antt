@@ -1,7 +1,6 @@
 -- Not routine: 0 less ACC borrows unless ACC is 0, which is the page's rule for C.
 use mathlib.Core.Path.{◌∙◌}
 use Rattle.sums.specs.PageSumLaws.{negated_is}
-use borrow.Author.Rules.{rules}
 use Rattle.sums.proofs.negate.Goals as goal
 
 pub returns : goal.returns

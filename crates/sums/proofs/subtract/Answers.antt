@@ -2,7 +2,6 @@
 use mathlib.Core.Path.{◌∙◌}
 use native.Mathlib.Omega.{arith}
 use Rattle.sums.specs.SumLaws.{subtract_settled}
-use borrow.Author.Rules.{rules}
 use Rattle.sums.proofs.subtract.Goals as goal
 
 pub returns : goal.returns

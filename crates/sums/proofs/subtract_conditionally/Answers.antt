@@ -1,6 +1,5 @@
 -- Not routine: with OVM 0 nothing is held, so that the difference is the ALU's output; doubling without the top bit is doubling modulo 2^32.
 use Rattle.sums.specs.PageSumLaws.{conditionally_taken, conditionally_left}
-use borrow.Author.Rules.{rules}
 use Rattle.sums.proofs.subtract_conditionally.Goals as goal
 
 pub returns-then-s-lt2147483648 : goal.returns-then-s-lt2147483648

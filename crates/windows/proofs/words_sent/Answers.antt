@@ -4,11 +4,10 @@ use Rattle.answers.specs.Numbers.{is_done}
 use lib.Seq.{length-take-le}
 use Rattle.board.specs.Windows.{words_sent}
 use Rattle.board.specs.WindowLaws.{sent_done}
-use borrow.Author.Rules.{rules}
 use Rattle.windows.proofs.words_sent.Goals as goal
 
 pub slice_bounds-result-end : goal.slice_bounds-result-end
-slice_bounds-result-end c =     sym
+slice_bounds-result-end c = sym
     (length-take-le _ _
     (sent_done _ _ (sym (c.is_done.ensures ∙ ap is_done c.words_sent_answer.ensures) ∙ c.if-is_done.true)).port.not_past)
 

@@ -2,7 +2,6 @@
 use mathlib.Core.Path.{◌∙◌}
 use native.Mathlib.Omega.{arith}
 use Rattle.words.specs.LogicLaws.{and_is}
-use borrow.Author.Rules.{rules}
 use Rattle.words.proofs.logic.and_low.Goals as goal
 
 pub returns : goal.returns

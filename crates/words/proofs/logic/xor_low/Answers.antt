@@ -2,11 +2,10 @@
 use mathlib.Core.Path.{◌∙◌}
 use native.Mathlib.Omega.{arith}
 use Rattle.words.specs.LogicLaws.{xor_is}
-use borrow.Author.Rules.{rules}
 use Rattle.words.proofs.logic.xor_low.Goals as goal
 
 pub returns : goal.returns
-returns c =     c.from_halves.ensures
+returns c = c.from_halves.ensures
     ∙ rw
     c.high_half.ensures
     (xor_is c.args.acc c.args.w c.low_half.result c.low_half.ensures (omega arith))
