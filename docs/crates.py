@@ -30,6 +30,7 @@ def read(path):
             layers.append((name, words, []))
         crate, is_crate, used = line.split('#')[0].partition(':')
         if is_crate:
+            crate = crate.split()[0]  # without `staticlib`
             if not layers:
                 sys.exit(f'crates.txt: {crate} stands in no layer')
             layers[-1][2].append(crate)

@@ -1,33 +1,27 @@
 # shellcheck shell=sh disable=SC2154
 # Read by replay, examples/c/build.sh and compare/build.sh with `top` set to the repository's folder: build_program and build_library prove and build what
-# is missing or older than a source, and run_program runs a program; `tools` is the toolchain's folder for this machine, `emulator` its emulator, where programs for x86-64 need one.
+# is missing or older than a source, and run_program runs a program. `emulator` is what EMULATOR names, an emulator of x86-64 that the programs in C are to
+# run under, as QEMU's; none is needed.
 
 command -v rt >/dev/null || { echo "rt, the Rattle toolchain, is not on the path" >&2; exit 1; }
-rt=$(readlink -f "$(command -v rt)")
-tools=${RATTLE_HOME:-$(dirname "$(dirname "$rt")")}/on/$(uname -m)/toolchain
-emulator=
-if [ "$(uname -m)" != x86_64 ]; then
-    emulator=$tools/bin/qemu-x86_64
-    [ -x "$emulator" ] || { echo "the Rattle toolchain has no emulator of x86-64 here ($emulator)" >&2; exit 1; }
-fi
+# shellcheck disable=SC2034
+emulator=${EMULATOR:-}
 
 # Runs a program that is built.
-run_program() { ${emulator:+"$emulator"} "$tools/lib/ld-linux-x86-64.so.2" --library-path "$tools/lib" "$top/target/bin/$1"; }
+run_program() { "$top/crates/$1/out/$1"; }
 
-build_program() { build "$1" "target/bin/$1" make_program; }
+build_program() { build "$1" "crates/$1/out/$1" make_program; }
 
-build_library() { build "$1" "target/staticlib/lib$1.a" make_library; }
+# The library NAME for C is built from the crate NAME_c, which has its exports.
+build_library() { build "$1_c" "target/staticlib/lib$1.a" make_library; }
 
+# `rt run` builds a program and then runs it once, here on no input.
 make_program() { # NAME FILE
-    # A stamp without its program would have rt build nothing.
-    [ -e "$2" ] || rm -f "target/stamp/$1"
-    rt check "$1"
+    (cd "crates/$1" && rt run)
 }
 
-# `rt staticlib` proves the crates below a library one after another, `rt check` several at a time.
 make_library() { # NAME FILE
-    # shellcheck disable=SC2046
-    rt check $(needed "$1" | grep -vx "$1") && rt staticlib "$1"
+    (cd "crates/$1" && rt lib) && mkdir -p "${2%/*}" && cp "crates/$1/out/lib$1.a" "$2"
 }
 
 # Runs MAKE for FILE unless that was done after the last change of a source. rt compares contents and can find a newer source unchanged: the mark is set
@@ -59,26 +53,23 @@ needed() { # NAME
             for (i = 1; i <= n; i++) visit(parts[i])
         }
         { sub(/#.*/, "") }
-        /:/ { split($0, part, ":"); below[part[1]] = part[2] }
+        /:/ { split($0, part, ":"); split(part[1], word, " "); below[word[1]] = part[2] }
         END { visit(name) }' crates.txt
 }
 
-# The first file or folder of those crates that is newer than the mark, if any.
+# The first file or folder of those crates' sources that is newer than the mark, if any. Not every crate has each of the three folders.
 newer_sources() { # NAME MARK
     # shellcheck disable=SC2046
-    find crates.txt $(needed "$1" | sed 's,^,crates/,') -name must-fail -prune -o -newer "$2" -print | head -n 1
+    find crates.txt $(needed "$1" | sed 's,.*,crates/&/src crates/&/specs crates/&/proofs,') -newer "$2" -print 2>/dev/null | head -n 1
 }
 
 # Keeps what rt prints in a file, and tells how many crates are proved: on a terminal in one line that is written over, otherwise at each quarter.
 show_progress() { # CRATES LOG
-    seen='' count=0 quarter=0 end=
+    count=0 quarter=0 end=
     while IFS= read -r line; do
         printf '%s\n' "$line" >&3
-        case $line in 'rt: '*' proved ('* | 'rt: target/staticlib/'*) ;; *) continue ;; esac
-        name=${line#rt: } name=${name%% *}
-        case " $seen " in *" $name "*) continue ;; esac
-        seen="$seen $name" count=$((count + 1))
-        case $line in *'(unchanged '*) continue ;; esac
+        case $line in 'logic=proved '*) ;; *) continue ;; esac
+        count=$((count + 1))
         if [ -t 2 ]; then
             printf '\rproved: %d of %d crates' "$count" "$1" >&2
             end='\n'

@@ -1,5 +1,5 @@
 # For sourcing by the launchers here, with `here` set: `build_example NAME` builds the program NAME.c, and the library, where they are missing or
-# older than a source, and sets `program`. A C compiler for x86-64 is needed: cc there, Debian's gcc-x86-64-linux-gnu elsewhere.
+# older than a source, and sets `program`. A C compiler for x86-64 is needed: cc, or what CC names.
 top=$(cd "$here/../.." && pwd -P)
 . "$top/tools/build.sh"
 
@@ -8,11 +8,8 @@ build_example() {
     program=$top/target/c/$1
     build_library desktop
     compiler=${CC:-cc}
-    static=
-    if [ "$(uname -m)" != x86_64 ]; then
-        compiler=${CC:-x86_64-linux-gnu-gcc}
-        static=-static
-    fi
+    # under an emulator there is no other machine's C library to load
+    static=${emulator:+-static}
     if [ ! -x "$program" ] || [ -n "$(find "$library" "$here/$1.c" "$here/board.c" "$here/board.h" "$top/include/crowmitten.h" -newer "$program")" ]; then
         mkdir -p "$top/target/c"
         "$compiler" -std=c99 -Wall -Wextra -O2 $static -I"$top/include" -o "$program" "$here/$1.c" "$here/board.c" "$library"

@@ -10,8 +10,7 @@ use c_file_writing::write_counted;
 use c_files::{read_counts, set_up_slices};
 
 // What a run file asks for: the length of its input slice, and its budget.
-#[unsafe(no_mangle)]
-pub extern "C" fn crowmitten_read(bytes: &[u8], input_count: &mut usize, budget: &mut u16) -> u32
+pub fn crowmitten_read(bytes: &[u8], input_count: &mut usize, budget: &mut u16) -> u32
     ensures answered { result ≡ number_of (read_answer bytes.now) }
     ensures input_words { input_count.new ≡ length (read_contents bytes.now).input }
     ensures steps_asked { budget.new ≡ (read_contents bytes.now).budget }
@@ -19,8 +18,7 @@ pub extern "C" fn crowmitten_read(bytes: &[u8], input_count: &mut usize, budget:
     read_counts(bytes, input_count, budget)
 }
 
-#[unsafe(no_mangle)]
-pub extern "C" fn crowmitten_set_up(
+pub fn crowmitten_set_up(
     bytes: &[u8],
     rom: &mut [u16],
     data: &mut [u16],
@@ -32,8 +30,7 @@ pub extern "C" fn crowmitten_set_up(
     set_up_slices(bytes, rom, data, input)
 }
 
-#[unsafe(no_mangle)]
-pub extern "C" fn crowmitten_write(
+pub fn crowmitten_write(
     program: &[u16],
     data: &[u16],
     input: &[u16],

@@ -14,15 +14,13 @@ use emulator::{run, step};
 use steps::Outside;
 
 // The cells after reset, whatever they held.
-#[unsafe(no_mangle)]
-pub extern "C" fn crowmitten_reset(cells: &mut [u32]) -> u32
+pub fn crowmitten_reset(cells: &mut [u32]) -> u32
     ensures { (result ≡ number_of (length_answer cells.old)) × (cells.new ≡ cells_after cells.old reset_machine) }
 {
     reset_cells(cells)
 }
 
-#[unsafe(no_mangle)]
-pub extern "C" fn crowmitten_step(
+pub fn crowmitten_step(
     cells: &mut [u32],
     rom: &[u16],
     data: &mut [u16],
@@ -40,8 +38,7 @@ pub extern "C" fn crowmitten_step(
     put_step(cells, after_step, answer)
 }
 
-#[unsafe(no_mangle)]
-pub extern "C" fn crowmitten_run(
+pub fn crowmitten_run(
     cells: &mut [u32],
     rom: &[u16],
     data: &mut [u16],
@@ -50,7 +47,7 @@ pub extern "C" fn crowmitten_run(
     budget: u16,
     steps: &mut u32,
 ) -> u32
-    ensures { record { steps = steps.exit.now; after = called result cells.new «data».new output.new } ≡ run_called (given rom.now input.now) budget cells.old «data».old output.old }
+    ensures { record { steps = steps.new; after = called result cells.new «data».new output.new } ≡ run_called (given rom.now input.now) budget cells.old «data».old output.old }
 {
     if !cells_pass(cells) {
         return refused_run(cells, steps);
@@ -63,8 +60,7 @@ pub extern "C" fn crowmitten_run(
 }
 
 // A run, and all that it hands out at its places in `results`.
-#[unsafe(no_mangle)]
-pub extern "C" fn crowmitten_run_with(
+pub fn crowmitten_run_with(
     cells: &mut [u32],
     rom: &[u16],
     data: &mut [u16],
@@ -73,7 +69,7 @@ pub extern "C" fn crowmitten_run_with(
     budget: u16,
     results: &mut [u32],
 ) -> u32
-    ensures { record { results = results.exit.now; after = called result cells.new «data».new output.new } ≡ run_with_called (given rom.now input.now) budget cells.old «data».old output.old results.entry.now }
+    ensures { record { results = results.new; after = called result cells.new «data».new output.new } ≡ run_with_called (given rom.now input.now) budget cells.old «data».old output.old results.old }
 {
     if !results_fit(results) {
         return number_of(Answer::SlicesUnfit);

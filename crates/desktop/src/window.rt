@@ -4,8 +4,7 @@ ghost use Rattle.c_window.specs.Shown.{placed, window_called};
 
 use c_window::window::place_window;
 
-#[unsafe(no_mangle)]
-pub extern "C" fn crowmitten_window<'a>(
+pub fn crowmitten_window<'a>(
     cells: &[u32],
     rom: &'a [u16],
     data: &'a [u16],
