@@ -44,11 +44,13 @@ loop-steps-preserved c =     let done = sym c.is_done-in-loop-steps.ensures ∙ 
     _ c.checked_step-s.ensures.external)
 
 pub returns-then-budget-steps : goal.returns-then-budget-steps
-returns-then-budget-steps c = rw c.apart.ensures (kept_ends _ _ _ _ _ _ _ _ c.loop-steps.invariant (omega (arith, c.ranges.budget)) c.if-budget-steps.true)
+returns-then-budget-steps c =
+    let ends = kept_ends _ _ _ _ _ _ _ _ c.loop-steps.invariant (omega (arith, c.ranges.budget)) c.if-budget-steps.true in
+    record { outcome = ends.0; external = c.apart.ensures ∙ ends.1.0; stores = ends.1.1 }
 
 pub returns-then-not-is_done-2 : goal.returns-then-not-is_done-2
 returns-then-not-is_done-2 c =     let refused = sym c.is_done-in-loop-steps.ensures ∙ not-true _ (ap not c.if-not-is_done-2.true) in
-    rw c.apart-then-not-is_done-2.ensures
-    (kept_stops _ _ _ _ _ _ _ _ c.loop-steps.invariant
-    (stepped c.checked_step-s.result c.checked_step-s.new.«data» c.checked_step-s.new.output) _
-    c.checked_step-s.ensures.outcome c.checked_step-s.ensures.stores c.if-budget-steps.false (omega (arith, c.ranges.budget)) refused)
+    let stops = kept_stops _ _ _ _ _ _ _ _ c.loop-steps.invariant
+        (stepped c.checked_step-s.result c.checked_step-s.new.«data» c.checked_step-s.new.output) _
+        c.checked_step-s.ensures.outcome c.checked_step-s.ensures.stores c.if-budget-steps.false (omega (arith, c.ranges.budget)) refused in
+    record { outcome = stops.0; external = c.apart-then-not-is_done-2.ensures ∙ stops.1.0; stores = stops.1.1 }
