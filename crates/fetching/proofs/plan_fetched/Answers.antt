@@ -12,10 +12,10 @@ returns-then-not-program_present c = rw (c.refuse.ensures, ← c.program_present
 
 pub returns : goal.returns
 unfolding fetch_plan_by plan_by fetch_rows
-returns c =     rw (
-      c.plan_decoded.ensures,
-      c.decode_by.ensures,
-      c.program_word-word.ensures,
-      ← c.program_present.ensures,
-      (ap not c.if-not-program_present.false),
-    )
+returns c = rw (
+  c.plan_decoded.ensures,
+  c.decode_by.ensures,
+  c.program_word-word.ensures,
+  ← c.program_present.ensures,
+  (ap not c.if-not-program_present.false),
+)

@@ -10,13 +10,13 @@ words_read-words-requires c = ap (λ (f : Found). f.word) c.requires.address_val
 
 pub returns : goal.returns
 unfolding performed passed_machine passed_write effect_of words_read memory_words with_port
-returns c =     rw (
-      c.write_of-write.ensures,
-      c.follow-n.ensures,
-      c.rule-e.ensures,
-      c.after_operand.ensures,
-      c.words_read-words.ensures,
-      c.requires.outside_value,
-      c.requires.address_value.1,
-      ← c.requires.address_value.0,
-    )
+returns c = rw (
+  c.write_of-write.ensures,
+  c.follow-n.ensures,
+  c.rule-e.ensures,
+  c.after_operand.ensures,
+  c.words_read-words.ensures,
+  c.requires.outside_value,
+  c.requires.address_value.1,
+  ← c.requires.address_value.0,
+)

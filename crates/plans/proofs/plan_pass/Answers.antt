@@ -13,24 +13,24 @@ perform-requires c = record {
 
 pub returns-then-is_done : goal.returns-then-is_done
 unfolding found_for
-returns-then-is_done c =     rw (
-      c.perform.ensures,
-      pass_plan_lem,
-      ← c.address_of-address.ensures,
-      ← c.find_operand-found.ensures,
-      ← c.pass_refusal-answer.ensures,
-      ← c.is_done.ensures,
-      c.if-is_done.true,
-    )
+returns-then-is_done c = rw (
+  c.perform.ensures,
+  pass_plan_lem,
+  ← c.address_of-address.ensures,
+  ← c.find_operand-found.ensures,
+  ← c.pass_refusal-answer.ensures,
+  ← c.is_done.ensures,
+  c.if-is_done.true,
+)
 
 pub returns : goal.returns
 unfolding found_for
-returns c =     rw (
-      c.refuse.ensures,
-      pass_plan_lem,
-      ← c.address_of-address.ensures,
-      ← c.find_operand-found.ensures,
-      ← c.pass_refusal-answer.ensures,
-      ← c.is_done.ensures,
-      c.if-is_done.false,
-    )
+returns c = rw (
+  c.refuse.ensures,
+  pass_plan_lem,
+  ← c.address_of-address.ensures,
+  ← c.find_operand-found.ensures,
+  ← c.pass_refusal-answer.ensures,
+  ← c.is_done.ensures,
+  c.if-is_done.false,
+)

@@ -4,7 +4,7 @@ use borrow.Author.Rules.{rules}
 use Rattle.replaying.proofs.replay_in.Goals as goal
 
 pub returns : goal.returns
-returns c =     placed_as _
+returns c = placed_as _
     (run_replay _
     c.requires.bytes_value
     c.requires.fresh_slices c.run-ran.result

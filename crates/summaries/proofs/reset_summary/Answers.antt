@@ -21,5 +21,5 @@ returns-then-not-summary_fits c = let unfit = sym c.summary_fits.ensures ∙ not
 
 pub returns : goal.returns
 unfolding summary_answer reset_summary
-returns c =     let fits = sym c.summary_fits.ensures ∙ not-false _ (ap not c.if-not-summary_fits.false) in
+returns c = let fits = sym c.summary_fits.ensures ∙ not-false _ (ap not c.if-not-summary_fits.false) in
     record { answered = simp fits; fresh = simp fits (c.clear.ensures ∙ rw (of_64 _ fits)) }

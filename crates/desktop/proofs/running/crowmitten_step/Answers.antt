@@ -9,7 +9,7 @@ use mathlib.Core.Bool.{not}
 use Rattle.desktop.proofs.running.crowmitten_step.Goals as goal
 
 pub returns-then-not-cells_pass : goal.returns-then-not-cells_pass
-returns-then-not-cells_pass c =     step_refused
+returns-then-not-cells_pass c = step_refused
     (given
     c.args.rom.now
     c.args.input.now)
@@ -20,7 +20,7 @@ returns-then-not-cells_pass c =     step_refused
     c.cells_number.ensures
 
 pub returns : goal.returns
-returns c =     step_made
+returns c = step_made
     (given
     c.args.rom.now
     c.args.input.now)
