@@ -4,7 +4,6 @@ use Rattle.steps.specs.declared.Plan.{Plan}
 use Rattle.steps.specs.Step.{step_of, after_store}
 use Rattle.steps.specs.Summary.{add_store}
 use Rattle.emulator.specs.RunLaws.{words_fit, table_plan, table_fits}
-use borrow.Author.Rules.{rules}
 use Rattle.emulator.proofs.checked_step.Goals as goal
 
 pub commit-requires : goal.commit-requires

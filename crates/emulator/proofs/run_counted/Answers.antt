@@ -1,13 +1,10 @@
 -- Not routine: what the loop keeps is that the steps done and the run still to come make up the whole run, and that checks 1 and 2 still hold.
 use mathlib.Core.Path.{sym, ◌∙◌}
-use Prim.Native.Nat.{◌-◌}
 use native.Mathlib.Omega.{arith}
-use borrow.Author.Rules.{rules}
 use borrow.Author.Tests.{not-true, not-false}
-use Rattle.board.specs.Given.{given}
 use Rattle.answers.specs.NumberLaws.{done_is, told}
 use Rattle.emulator.specs.Outcomes.{stepped}
-use Rattle.emulator.specs.RunLaws.{refused_run, refused_counts, refused_stores, words_fit, going_begins, going_checks, counted_fits, Kept, kept_begins, kept_on, kept_stops, kept_ends}
+use Rattle.emulator.specs.RunLaws.{refused_run, refused_counts, refused_stores, words_fit, going_begins, going_checks, counted_fits, kept_begins, kept_on, kept_stops, kept_ends}
 use Rattle.std.proofs.Common.{ap}
 use mathlib.Core.Bool.{not}
 use Rattle.emulator.proofs.run_counted.Goals as goal

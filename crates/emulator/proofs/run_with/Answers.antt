@@ -1,6 +1,5 @@
 use mathlib.Core.Path.{sym, ◌∙◌}
 use borrow.Author.Tests.{not-true, not-false}
-use borrow.Author.Rules.{rules}
 use Rattle.answers.specs.NumberLaws.{told}
 use Rattle.steps.specs.SummaryLaws.{refused_run, refused_outside, refused_summary, begun_run, begun_outside, begun_summary}
 use Rattle.std.proofs.Common.{ap}

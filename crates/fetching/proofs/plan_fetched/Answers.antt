@@ -1,7 +1,6 @@
 use Rattle.fetching.specs.ByTable.{fetch_plan_by}
 use Rattle.steps.specs.Pass.{plan_by}
 use Rattle.steps.specs.Table.{fetch_rows}
-use borrow.Author.Rules.{rules}
 use Rattle.std.proofs.Common.{ap}
 use mathlib.Core.Bool.{not}
 use Rattle.fetching.proofs.plan_fetched.Goals as goal

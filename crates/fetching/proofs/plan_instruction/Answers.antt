@@ -1,7 +1,6 @@
 use Rattle.steps.specs.Stages.{instruction_plan}
 use Rattle.steps.specs.Pass.{plan_by}
 use Rattle.steps.specs.Table.{repeat_rows, not_repeatable, second_absent, second_word, second_address}
-use borrow.Author.Rules.{rules}
 use Rattle.fetching.proofs.plan_instruction.Goals as goal
 
 pub returns-then-is_unrepeatable : goal.returns-then-is_unrepeatable

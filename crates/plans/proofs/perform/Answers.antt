@@ -2,7 +2,6 @@ use mathlib.Core.Path.{ap}
 use Rattle.board.specs.declared.Found.{Found}
 use Rattle.steps.specs.Pass.{performed, passed_machine, passed_write, effect_of, words_read}
 use Rattle.plans.specs.PassWords.{memory_words, with_port}
-use borrow.Author.Rules.{rules}
 use Rattle.plans.proofs.perform.Goals as goal
 
 pub words_read-words-requires : goal.words_read-words-requires

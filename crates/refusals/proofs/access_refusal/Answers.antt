@@ -1,6 +1,5 @@
 use Rattle.steps.specs.Rows.{first_given}
 use Rattle.steps.specs.Refusals.{access_rows, data_absent}
-use borrow.Author.Rules.{rules}
 use Rattle.refusals.proofs.access_refusal.Goals as goal
 
 pub returns-then-is_wrong_port : goal.returns-then-is_wrong_port

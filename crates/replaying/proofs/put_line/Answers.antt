@@ -2,7 +2,6 @@
 use Rattle.replaying.specs.ReplayLaws.{placed_as, placed_whole, refused_replay}
 use Rattle.answers.specs.NumberLaws.{told}
 use native.Mathlib.Omega.{arith}
-use borrow.Author.Rules.{rules}
 use Rattle.replaying.proofs.put_line.Goals as goal
 
 pub replay_accepted-requires : goal.replay_accepted-requires

@@ -3,7 +3,6 @@ use mathlib.Core.Path.{sym, ◌∙◌}
 use native.Mathlib.Omega.{arith}
 use Rattle.steps.specs.Stores.{write_of}
 use Rattle.board.specs.RegionLaws.{moves}
-use borrow.Author.Rules.{rules}
 use Rattle.stores.proofs.write_of.Goals as goal
 
 pub overflow_add-result : goal.overflow_add-result

@@ -4,7 +4,6 @@ use mathlib.Core.Bool.{true}
 use mathlib.Core.List.{List}
 use Prim.Native.Nat.{ℕ}
 use lib.ListN.{length}
-use borrow.Author.Rules.{rules}
 use borrow.Author.Tests.{eqb-true, not-true, not-false}
 use Rattle.steps.specs.Summary.{summary_fits, summary_answer, reset_summary}
 use Rattle.std.proofs.Common.{ap}

@@ -3,7 +3,6 @@ use Rattle.board.specs.Given.{given}
 use Rattle.desktop.specs.CallLaws.{run_refused, run_made}
 use borrow.Author.Tests.{not-true, not-false}
 use mathlib.Core.Path.{sym, ◌∙◌}
-use borrow.Author.Rules.{rules}
 use Rattle.std.proofs.Common.{ap}
 use mathlib.Core.Bool.{not}
 use Rattle.desktop.proofs.running.crowmitten_run.Goals as goal
