@@ -5,7 +5,6 @@ use Prim.Native.Nat.{ℕ}
 use lib.ListN.{length-replicate}
 use lib.Seq.{length-take-le}
 use native.Mathlib.Omega.{arith}
-use borrow.Author.Rules.{rules}
 use Rattle.replaying.proofs.replay_accepted.Goals as goal
 
 pub slice_bounds-input-end : goal.slice_bounds-input-end

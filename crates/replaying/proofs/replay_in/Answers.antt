@@ -1,10 +1,9 @@
 -- Not routine: the answer of `set_up` is not looked at: slices of these sizes fit an accepted file, so that it cannot refuse.
 use Rattle.replaying.specs.ReplayLaws.{placed_as, run_replay}
-use borrow.Author.Rules.{rules}
 use Rattle.replaying.proofs.replay_in.Goals as goal
 
 pub returns : goal.returns
-returns c =     placed_as _
+returns c = placed_as _
     (run_replay _
     c.requires.bytes_value
     c.requires.fresh_slices c.run-ran.result

@@ -2,7 +2,6 @@
 use mathlib.Core.Path.{sym}
 use lib.Seq.{take_all, length-take-le}
 use native.Mathlib.Omega.{arith}
-use borrow.Author.Rules.{rules}
 use Rattle.replaying.proofs.replayed.Goals as goal
 
 pub slice_bounds-put_line-end : goal.slice_bounds-put_line-end

@@ -3,13 +3,12 @@ use Rattle.board.specs.Given.{given}
 use Rattle.desktop.specs.CallLaws.{run_refused, run_made}
 use borrow.Author.Tests.{not-true, not-false}
 use mathlib.Core.Path.{sym, ◌∙◌}
-use borrow.Author.Rules.{rules}
 use Rattle.std.proofs.Common.{ap}
 use mathlib.Core.Bool.{not}
 use Rattle.desktop.proofs.running.crowmitten_run.Goals as goal
 
 pub returns-then-not-cells_pass : goal.returns-then-not-cells_pass
-returns-then-not-cells_pass c =     run_refused
+returns-then-not-cells_pass c = run_refused
     (given
     c.args.rom.now
     c.args.input.now)
@@ -22,7 +21,7 @@ returns-then-not-cells_pass c =     run_refused
     c.refused_run.ensures.none
 
 pub returns : goal.returns
-returns c =     run_made
+returns c = run_made
     (given
     c.args.rom.now
     c.args.input.now)

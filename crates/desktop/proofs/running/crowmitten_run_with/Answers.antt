@@ -3,20 +3,19 @@ use Rattle.board.specs.Given.{given}
 use Rattle.desktop.specs.CallLaws.{results_refused, run_with_refused, run_with_made}
 use borrow.Author.Tests.{not-true, not-false}
 use mathlib.Core.Path.{sym, ◌∙◌}
-use borrow.Author.Rules.{rules}
 use Rattle.std.proofs.Common.{ap}
 use mathlib.Core.Bool.{not}
 use Rattle.desktop.proofs.running.crowmitten_run_with.Goals as goal
 
 pub returns-then-not-results_fit : goal.returns-then-not-results_fit
-returns-then-not-results_fit c =     results_refused
+returns-then-not-results_fit c = results_refused
     (given c.args.rom.now c.args.input.now) c.args.budget
     c.args.cells.now c.args.«data».now c.args.output.now c.args.results.now
     (sym c.results_fit.ensures ∙ not-true _ (ap not c.if-not-results_fit.true))
     c.number_of.ensures
 
 pub returns-then-not-cells_pass : goal.returns-then-not-cells_pass
-returns-then-not-cells_pass c =     run_with_refused
+returns-then-not-cells_pass c = run_with_refused
     (given c.args.rom.now c.args.input.now) c.args.budget
     c.args.cells.now c.args.«data».now c.args.output.now c.args.results.now
     (sym c.results_fit.ensures ∙ not-false _ (ap not c.if-not-results_fit.false))
@@ -25,7 +24,7 @@ returns-then-not-cells_pass c =     run_with_refused
     c.put_results.ensures
 
 pub returns : goal.returns
-returns c =     run_with_made
+returns c = run_with_made
     (given c.args.rom.now c.args.input.now) c.args.budget
     c.args.cells.now c.args.«data».now c.args.output.now c.args.results.now
     (sym c.results_fit.ensures ∙ not-false _ (ap not c.if-not-results_fit.false))

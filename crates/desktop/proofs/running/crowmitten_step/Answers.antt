@@ -3,13 +3,12 @@ use Rattle.board.specs.Given.{given}
 use Rattle.desktop.specs.CallLaws.{step_refused, step_made}
 use borrow.Author.Tests.{not-true, not-false}
 use mathlib.Core.Path.{sym, ◌∙◌}
-use borrow.Author.Rules.{rules}
 use Rattle.std.proofs.Common.{ap}
 use mathlib.Core.Bool.{not}
 use Rattle.desktop.proofs.running.crowmitten_step.Goals as goal
 
 pub returns-then-not-cells_pass : goal.returns-then-not-cells_pass
-returns-then-not-cells_pass c =     step_refused
+returns-then-not-cells_pass c = step_refused
     (given
     c.args.rom.now
     c.args.input.now)
@@ -20,7 +19,7 @@ returns-then-not-cells_pass c =     step_refused
     c.cells_number.ensures
 
 pub returns : goal.returns
-returns c =     step_made
+returns c = step_made
     (given
     c.args.rom.now
     c.args.input.now)

@@ -1,0 +1,3 @@
+pub mod RestoreLaws
+pub mod PowerLaws
+pub mod CycleLaws
