@@ -28,8 +28,8 @@ use Rattle.steps.specs.Pass.{effect_of}
 use Rattle.steps.specs.World.{World}
 use Rattle.steps.specs.Step.{step_of, world_after}
 use Rattle.laws.specs.Laws.{PassWorks, effect_at}
-use Rattle.laws.specs.Repeats.{every_pass_works}
-use Rattle.laws.specs.OperandLaws.{Alike, operand_alike}
+use Rattle.laws.proofs.Repeats.{every_pass_works}
+use Rattle.laws.proofs.OperandLaws.{Alike, operand_alike}
 use Rattle.division.specs.Division.{subc, SubcPass, SubcPasses, Divisor, Divides}
 use Rattle.division.specs.Digits.{subtracted_once, Digits, no_digit, next_digit, all_digits}
 

@@ -30,11 +30,11 @@ use Rattle.steps.specs.World.{World}
 use Rattle.steps.specs.Table.{decoded_at}
 use Rattle.steps.specs.Step.{step_of, run_of, world_after}
 use Rattle.laws.specs.Laws.{PassWorks, effect_at}
-use Rattle.laws.specs.Repeats.{every_pass_works}
+use Rattle.laws.proofs.Repeats.{every_pass_works}
 use Rattle.laws.specs.Repeating.{word_ahead}
-use Rattle.laws.specs.RepeatingLaws.{repeat_begins}
-use Rattle.laws.specs.OperandLaws.{operand_alike}
-use Rattle.laws.specs.Runs.{runs_on, run_to}
+use Rattle.laws.proofs.RepeatingLaws.{repeat_begins}
+use Rattle.laws.proofs.OperandLaws.{operand_alike}
+use Rattle.laws.proofs.Runs.{runs_on, run_to}
 use Rattle.division.specs.Division.{subc, SubcPass, SubcPasses}
 use Rattle.division.specs.Exposure.{Still, direct, indirect, DividesByRepeat}
 use Rattle.division.specs.DivisionLaws.{divides}

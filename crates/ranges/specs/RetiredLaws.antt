@@ -28,7 +28,7 @@ use Rattle.steps.specs.Pass.{refused, plan_by}
 use Rattle.steps.specs.World.{World}
 use Rattle.steps.specs.Table.{decoded_at, table_for, check_rows, fetch_rows, encoding_rows, instruction_rows, repeat_rows}
 use Rattle.steps.specs.Step.{page_plan, plan_of, after_store, step_of, run_of, rows_of}
-use Rattle.steps.specs.RowLaws.{plan_answer}
+use Rattle.steps.proofs.RowLaws.{plan_answer}
 use Rattle.ranges.specs.Fields.{OperandFits}
 use Rattle.ranges.specs.FieldLaws.{decoded_operand}
 use Rattle.ranges.specs.Retired.{AddressBelow, address_above, NoneAbove, with_row_before, former_rows, former_plan, former_step, former_run, EightRetired, FormerOrder}

@@ -20,11 +20,11 @@ use Rattle.steps.specs.Rows.{Row, first_given}
 use Rattle.steps.specs.World.{World, RunOutcome}
 use Rattle.steps.specs.Table.{decoded_at, table_for, checks_of, check_rows, fetch_rows, encoding_rows, instruction_rows, repeat_rows}
 use Rattle.steps.specs.Step.{step_of, run_of}
-use Rattle.steps.specs.RowLaws.{every, every_first}
+use Rattle.steps.proofs.RowLaws.{every, every_first}
 use Rattle.steps.specs.Refusals.{pass_rows, access_rows, rest_rows}
-use Rattle.steps.specs.TableLaws.{step_answer}
+use Rattle.steps.proofs.TableLaws.{step_answer}
 use Rattle.laws.specs.Laws.{AllDone}
-use Rattle.laws.specs.Runs.{run_none, run_refused, run_done, by_first}
+use Rattle.laws.proofs.Runs.{run_none, run_refused, run_done, by_first}
 use Rattle.ranges.specs.Ranges.{WorldInRange, StartInRange, RunInRange, RunsInRange}
 use Rattle.ranges.specs.Steps.{step_in_range}
 

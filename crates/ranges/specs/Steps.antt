@@ -33,10 +33,10 @@ use Rattle.steps.specs.Pass.{words_read, effect_of, passed_machine, passed_write
 use Rattle.steps.specs.World.{World}
 use Rattle.steps.specs.Table.{decoded_at, second_word, table_for, check_rows, fetch_rows, encoding_rows, instruction_rows, repeat_rows}
 use Rattle.steps.specs.Step.{after_store, step_of}
-use Rattle.steps.specs.RowLaws.{row_not}
-use Rattle.steps.specs.TableLaws.{step_world}
-use Rattle.laws.specs.Steps.{refused_unchanged, row_given}
-use Rattle.laws.specs.Runs.{by_first}
+use Rattle.steps.proofs.RowLaws.{row_not}
+use Rattle.steps.proofs.TableLaws.{step_world}
+use Rattle.laws.proofs.Steps.{refused_unchanged, row_given}
+use Rattle.laws.proofs.Runs.{by_first}
 use Rattle.ranges.specs.Ranges.{WordsFit, WorldInRange, StepInRange}
 use Rattle.ranges.specs.Fields.{FieldsFit, DecodedFits}
 use Rattle.ranges.specs.FieldLaws.{fields_at}

@@ -15,7 +15,7 @@ use Rattle.runfile.specs.FileLaws.{counts_facts}
 use Rattle.runfile_round_trips.specs.RoundTrip.{read_within, read_sixteen_bits}
 use Rattle.steps.specs.World.{World, RunOutcome}
 use Rattle.steps.specs.Step.{step_of, run_of}
-use Rattle.laws.specs.Runs.{run_none, run_done, run_refused, by_first}
+use Rattle.laws.proofs.Runs.{run_none, run_done, run_refused, by_first}
 use Rattle.ranges.specs.Ranges.{WorldInRange}
 use Rattle.ranges.specs.Runs.{runs_in_range}
 use Rattle.line_fields.specs.Placing.{line_in, length_in}

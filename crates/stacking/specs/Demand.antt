@@ -22,10 +22,10 @@ use Rattle.steps.specs.Pass.{effect_of, passed_machine, performed}
 use Rattle.steps.specs.World.{World}
 use Rattle.steps.specs.Table.{decoded_at, second_word}
 use Rattle.steps.specs.Step.{after_store, step_of, run_of, world_after}
-use Rattle.steps.specs.TableLaws.{step_world}
+use Rattle.steps.proofs.TableLaws.{step_world}
 use Rattle.laws.specs.Repeating.{word_ahead}
-use Rattle.laws.specs.OperandLaws.{operand_alike}
-use Rattle.laws.specs.Runs.{run_ended, RunsOn, runs_on, run_to}
+use Rattle.laws.proofs.OperandLaws.{operand_alike}
+use Rattle.laws.proofs.Runs.{run_ended, RunsOn, runs_on, run_to}
 use Rattle.frame_sums.specs.Frames.{Pair, Accumulation, from_zero, product_added, passed, stacked, Words}
 use Rattle.frame_sums.specs.FrameLaws.{passes_keep_ov, below_128, at_128}
 use Rattle.stacking.specs.Stacking.{pairs_read, Stacks, last_world, words, StaysZero, AtApac, Holds, HoldsAt128}

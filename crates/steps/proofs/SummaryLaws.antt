@@ -15,9 +15,9 @@ use Rattle.steps.specs.OperandFound.{none_outside}
 use Rattle.steps.specs.World.{World}
 use Rattle.steps.specs.Step.{step_of, run_of}
 use Rattle.steps.specs.Table.{check_rows, checks_of}
-use Rattle.steps.specs.RowLaws.{all_refuse, first_append}
+use Rattle.steps.proofs.RowLaws.{all_refuse, first_append}
 use Rattle.steps.specs.Tally.{plan_in, plans_of, tallied, outside_of}
-use Rattle.steps.specs.TallyLaws.{refused_plan}
+use Rattle.steps.proofs.TallyLaws.{refused_plan}
 use Rattle.steps.specs.Summary.{summary_fits, counted_at, page_counted, word_counted, store_counted, add_store, summary_rows, rows_with, checks_with, begins_with, run_with, plans_with, outside_with, summary_with}
 
 -- ---- sizes

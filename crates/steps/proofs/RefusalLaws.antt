@@ -11,7 +11,7 @@ use Rattle.board.specs.declared.Region.{Region}
 use Rattle.steps.specs.OperandFound.{found_for}
 use Rattle.steps.specs.Rows.{first_given}
 use Rattle.steps.specs.Refusals.{takes, sends, input_dry, table_absent, output_full, access_rows, rest_rows, pass_rows, pass_refusal}
-use Rattle.steps.specs.RowLaws.{Refusals, all_refuse, first_append, plan_by_first}
+use Rattle.steps.proofs.RowLaws.{Refusals, all_refuse, first_append, plan_by_first}
 use Rattle.steps.specs.Pass.{refused, performed, pass_plan}
 use Rattle.instructions.specs.declared.Instruction.{Instruction}
 use Rattle.board.specs.Given.{Given}

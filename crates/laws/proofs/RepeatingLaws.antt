@@ -18,9 +18,9 @@ use Rattle.steps.specs.Pass.{words_read, effect_of, passed_machine, passed_write
 use Rattle.steps.specs.World.{World}
 use Rattle.steps.specs.Table.{decoded_at, second_word}
 use Rattle.steps.specs.Step.{after_store, step_of}
-use Rattle.steps.specs.TableLaws.{step_world}
+use Rattle.steps.proofs.TableLaws.{step_world}
 use Rattle.laws.specs.Repeating.{Repeats, by_rptk, by_rpt, repeat_begun}
-use Rattle.laws.specs.OperandLaws.{operand_alike}
+use Rattle.laws.proofs.OperandLaws.{operand_alike}
 
 module _ (g : Given) (w : World) where
   performs : (r : Instruction) (k : ℕ) → Repeats w r k

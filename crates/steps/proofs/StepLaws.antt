@@ -13,11 +13,11 @@ use Rattle.steps.specs.declared.Plan.{Plan}
 use Rattle.steps.specs.Rows.{NoneHolds}
 use Rattle.steps.specs.Refusals.{pass_rows, access_rows, rest_rows}
 use Rattle.steps.specs.Pass.{performed}
-use Rattle.steps.specs.StoreLaws.{WriteFits, write_fits}
+use Rattle.steps.proofs.StoreLaws.{WriteFits, write_fits}
 use Rattle.steps.specs.World.{World, Outcome, RunOutcome}
 use Rattle.steps.specs.Table.{decoded_at, second_word, checks_of, table_for, check_rows, fetch_rows, encoding_rows, instruction_rows, repeat_rows}
 use Rattle.steps.specs.Step.{plan_of, step_of, run_of, page_plan}
-use Rattle.steps.specs.RowLaws.{row_not, plan_has}
+use Rattle.steps.proofs.RowLaws.{row_not, plan_has}
 
 module _ (g : Given) (d : List ℕ) (output_length : ℕ) (m : Machine) where
   -- what a plan stores fits the data slice

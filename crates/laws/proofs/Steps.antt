@@ -15,10 +15,10 @@ use Rattle.steps.specs.Stores.{data_after, output_after}
 use Rattle.steps.specs.World.{World}
 use Rattle.steps.specs.Table.{decoded_at, second_word, table_for, checks_of, check_rows, fetch_rows, encoding_rows, instruction_rows, repeat_rows}
 use Rattle.steps.specs.Step.{page_plan, plan_of, after_store, step_of, rows_of}
-use Rattle.steps.specs.RowLaws.{every, every_first, none_done, none_from, none_append, plan_by_first}
+use Rattle.steps.proofs.RowLaws.{every, every_first, none_done, none_from, none_append, plan_by_first}
 use Rattle.steps.specs.OperandFound.{found_for}
 use Rattle.steps.specs.Refusals.{pass_rows, access_rows, rest_rows}
-use Rattle.steps.specs.TableLaws.{step_answer, rows_refuse}
+use Rattle.steps.proofs.TableLaws.{step_answer, rows_refuse}
 use Rattle.laws.specs.Laws.{RefusedUnchanged, AnswersOfAStep, GivenBy, RowGiven, RepeatBeforeSecondWord, PortBeforeData, PortBeforeDry, DataBeforeDry, PresenceBeforeEncoding, is_among, step_numbers}
 use Rattle.board.specs.Given.{Given}
 

@@ -59,10 +59,10 @@ use Rattle.steps.specs.World.{World}
 use Rattle.steps.specs.Table.{decoded_at, second_address, second_word, not_repeatable, second_absent, table_for, check_rows, fetch_rows, encoding_rows, instruction_rows, repeat_rows}
 use Rattle.steps.specs.Step.{after_store, step_of, rows_of}
 use Rattle.steps.specs.Rows.{NoneHolds}
-use Rattle.steps.specs.RowLaws.{row_not}
-use Rattle.steps.specs.TableLaws.{step_world}
+use Rattle.steps.proofs.RowLaws.{row_not}
+use Rattle.steps.proofs.TableLaws.{step_world}
 use Rattle.laws.specs.Laws.{recounted, work_of, effect_at, write_at, PassWorks, EveryPassWorks}
-use Rattle.laws.specs.Steps.{◌and◌, row_given, pass_none}
+use Rattle.laws.proofs.Steps.{◌and◌, row_given, pass_none}
 
 -- the machine with another RPTC and another PC
 abbrev counted_at : Machine → ℕ → ℕ → Machine

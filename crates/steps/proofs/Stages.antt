@@ -12,7 +12,7 @@ use Rattle.steps.specs.declared.Plan.{Plan}
 use Rattle.steps.specs.Pass.{plan_by, pass_plan}
 use Rattle.steps.specs.Table.{decoded_at, second_word, check_rows, fetch_rows, encoding_rows, repeat_rows, instruction_rows, table_for}
 use Rattle.steps.specs.Step.{page_plan, plan_of}
-use Rattle.steps.specs.RowLaws.{plan_append}
+use Rattle.steps.proofs.RowLaws.{plan_append}
 
 -- an instruction: what is asked before its pass, and then the pass
 unfoldable pub instruction_plan : Instruction → Given → List ℕ → ℕ → Machine → Plan

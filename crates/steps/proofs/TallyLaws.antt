@@ -23,8 +23,8 @@ use Rattle.steps.specs.Pass.{refused, performed}
 use Rattle.steps.specs.World.{World, Outcome}
 use Rattle.steps.specs.Table.{table_for, decoded_at, checks_of}
 use Rattle.steps.specs.Step.{plan_of, step_of, page_plan}
-use Rattle.steps.specs.RowLaws.{plan_has}
-use Rattle.steps.specs.TableLaws.{checks_refuse}
+use Rattle.steps.proofs.RowLaws.{plan_has}
+use Rattle.steps.proofs.TableLaws.{checks_refuse}
 use Rattle.steps.specs.Tally.{plan_in, plans_of, tallied, add_outside, outside_of}
 
 -- ---- a history, step by step

@@ -31,12 +31,12 @@ use Rattle.steps.specs.declared.Plan.{Plan}
 use Rattle.steps.specs.World.{World}
 use Rattle.steps.specs.Table.{decoded_at, second_word, table_for, check_rows, fetch_rows, encoding_rows, instruction_rows, repeat_rows}
 use Rattle.steps.specs.Step.{after_store, step_of, one_more, run_of}
-use Rattle.steps.specs.RowLaws.{row_not}
+use Rattle.steps.proofs.RowLaws.{row_not}
 use Rattle.steps.specs.Tally.{plan_in}
-use Rattle.steps.specs.TableLaws.{step_plan}
+use Rattle.steps.proofs.TableLaws.{step_plan}
 use Rattle.laws.specs.Laws.{continued, with_further, ContinuedWith, RunContinued}
-use Rattle.laws.specs.Steps.{◌and◌, row_given}
-use Rattle.laws.specs.Runs.{run_none, run_refused, run_done, by_first, none_before, one_before}
+use Rattle.laws.proofs.Steps.{◌and◌, row_given}
+use Rattle.laws.proofs.Runs.{run_none, run_refused, run_done, by_first, none_before, one_before}
 
 -- ---- a step that is done, with further words behind the input
 

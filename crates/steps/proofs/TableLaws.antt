@@ -16,7 +16,7 @@ use Rattle.steps.specs.Pass.{performed}
 use Rattle.steps.specs.World.{World}
 use Rattle.steps.specs.Table.{decoded_at, second_word, table_for, checks_of, check_rows, fetch_rows, encoding_rows, instruction_rows, repeat_rows}
 use Rattle.steps.specs.Step.{page_plan, plan_of, after_store, step_of, rows_of}
-use Rattle.steps.specs.RowLaws.{Refusals, all_refuse, first_append, none_from, plan_answer, plan_done}
+use Rattle.steps.proofs.RowLaws.{Refusals, all_refuse, first_append, none_from, plan_answer, plan_done}
 
 page_done : (d : Decoded) (g : Given) («data» : List ℕ) (m : Machine) → (page_plan d g «data» m).answer ≡ Done
 unfolding page_plan performed
