@@ -9,7 +9,7 @@ use Rattle.machine.specs.Range.{in_range}
 use Rattle.answers.specs.declared.Answer.{Answer}
 use Rattle.answers.specs.declared.Answer.TheVariants.{Done}
 use Rattle.answers.specs.Numbers.{is_done}
-use Rattle.answers.specs.NumberLaws.{done_is}
+use Rattle.answers.proofs.NumberLaws.{done_is}
 use Rattle.board.specs.Slices.{slices_fit}
 use Rattle.board.specs.Given.{Given}
 use Rattle.steps.specs.Rows.{NoneHolds}
@@ -27,15 +27,15 @@ use Rattle.steps.specs.StepLaws.{step_fits, Running, running_begins, running_goe
 use Rattle.steps.specs.declared.Outside.{Outside}
 use Rattle.steps.specs.OperandFound.{none_outside}
 use Rattle.steps.specs.Tally.{plan_in, plans_of, tallied, both_outside, add_outside, outside_of}
-use Rattle.steps.specs.TallyLaws.{few_outside, Tallying, tallying_begins, tallying_goes, tallying_stops, tallying_ends, no_plans}
+use Rattle.steps.proofs.TallyLaws.{few_outside, Tallying, tallying_begins, tallying_goes, tallying_stops, tallying_ends, no_plans}
 use Rattle.steps.specs.Summary.{add_store}
-use Rattle.steps.specs.SummaryLaws.{plan_sized, refused_adds}
+use Rattle.steps.proofs.SummaryLaws.{plan_sized, refused_adds}
 use Rattle.emulator.specs.Totals.{in_one, apart_from}
 use Rattle.steps.specs.RowLaws.{Refusals, all_refuse, none_from, row_not, plan_done, plan_by_first}
 use Rattle.ranges.specs.Ranges.{WordsFit, WorldInRange}
 use Rattle.ranges.specs.Operands.{program_word_lt}
-use Rattle.ranges.specs.Steps.{step_in_range}
-use Rattle.ranges.specs.Runs.{checks_done}
+use Rattle.ranges.proofs.Steps.{step_in_range}
+use Rattle.ranges.proofs.Runs.{checks_done}
 use borrow.Author.Tests.{not-false}
 
 module _ (g : Given) (d : List ℕ) (o : ℕ) (m : Machine) where

@@ -5,7 +5,7 @@ use Rattle.machine.specs.declared.Machine.{Machine}
 use Rattle.machine.specs.RangeLaws.{ranged, most}
 use Rattle.answers.specs.declared.Answer.TheVariants.{Done}
 use Rattle.answers.specs.Numbers.{number_of, is_done}
-use Rattle.answers.specs.NumberLaws.{done_is, number_below}
+use Rattle.answers.proofs.NumberLaws.{done_is, number_below}
 use Rattle.board.specs.SliceLaws.{slices_fit_lem}
 use Rattle.board.specs.Windows.{words_sent, words_sent_answer}
 use Rattle.board.specs.Given.{Given}
@@ -15,9 +15,9 @@ use Rattle.runfile.specs.FileLaws.{counts_facts}
 use Rattle.runfile_round_trips.specs.RoundTrip.{read_within, read_sixteen_bits}
 use Rattle.steps.specs.World.{World, RunOutcome}
 use Rattle.steps.specs.Step.{step_of, run_of}
-use Rattle.laws.specs.Runs.{run_none, run_done, run_refused, by_first}
+use Rattle.laws.proofs.Runs.{run_none, run_done, run_refused, by_first}
 use Rattle.ranges.specs.Ranges.{WorldInRange}
-use Rattle.ranges.specs.Runs.{runs_in_range}
+use Rattle.ranges.proofs.Runs.{runs_in_range}
 use Rattle.line_fields.specs.Placing.{line_in, length_in}
 use Rattle.line_fields.specs.PlacingLaws.{line_length, number_length}
 use Rattle.line.specs.Lines.{refused_line, parted}

@@ -16,5 +16,3 @@ pub mod TableLaws
 pub mod StoreLaws
 pub mod Stages
 pub mod StepLaws
-pub mod TallyLaws
-pub mod SummaryLaws

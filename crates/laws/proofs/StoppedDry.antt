@@ -28,8 +28,8 @@ use Rattle.steps.specs.Step.{step_of, run_of, world_after}
 use Rattle.steps.specs.RowLaws.{every, every_first, row_not}
 use Rattle.steps.specs.TableLaws.{step_answer}
 use Rattle.laws.specs.Laws.{AllDone, with_further, AtDryPort, RunStoppedDry}
-use Rattle.laws.specs.Steps.{◌and◌, row_given}
-use Rattle.laws.specs.Runs.{run_none, run_refused, run_done, by_first}
+use Rattle.laws.proofs.Steps.{◌and◌, row_given}
+use Rattle.laws.proofs.Runs.{run_none, run_refused, run_done, by_first}
 use Rattle.laws.specs.Inputs.{takes_is_in}
 
 -- ---- a step that answers 11

@@ -62,7 +62,7 @@ use Rattle.steps.specs.Rows.{NoneHolds}
 use Rattle.steps.specs.RowLaws.{row_not}
 use Rattle.steps.specs.TableLaws.{step_world}
 use Rattle.laws.specs.Laws.{recounted, work_of, effect_at, write_at, PassWorks, EveryPassWorks}
-use Rattle.laws.specs.Steps.{◌and◌, row_given, pass_none}
+use Rattle.laws.proofs.Steps.{◌and◌, row_given, pass_none}
 
 -- the machine with another RPTC and another PC
 abbrev counted_at : Machine → ℕ → ℕ → Machine

@@ -11,7 +11,7 @@ use Rattle.steps.specs.Table.{checks_of}
 use Rattle.steps.specs.Step.{step_of, one_more, run_of, world_after}
 use Rattle.steps.specs.TableLaws.{checks_refuse}
 use Rattle.laws.specs.Laws.{AnswersOfARun, AllDone, RunIs, continued, RunsAdd, is_among, step_numbers}
-use Rattle.laws.specs.Steps.{refused_unchanged, answers_of_a_step, answers_of_checks}
+use Rattle.laws.proofs.Steps.{refused_unchanged, answers_of_a_step, answers_of_checks}
 use Rattle.board.specs.Given.{Given}
 
 module _ (g : Given) where

@@ -15,7 +15,7 @@ use Rattle.alu.specs.Shifts.{extended, operand}
 use Rattle.alu.specs.PageSums.{alu_output, subtracted_conditionally}
 use Rattle.sums.specs.SumLaws.{holds_in}
 use Rattle.machine.specs.declared.Machine.{Machine}
-use Rattle.answers.specs.NumberLaws.{done_is}
+use Rattle.answers.proofs.NumberLaws.{done_is}
 use Rattle.instructions.specs.declared.Instruction.{Instruction}
 use Rattle.pages.specs.declared.Operand.TheVariants.{At}
 use Rattle.pages.specs.Traits.{traits_of, accumulator_traits}
@@ -28,7 +28,7 @@ use Rattle.steps.specs.Pass.{effect_of}
 use Rattle.steps.specs.World.{World}
 use Rattle.steps.specs.Step.{step_of, world_after}
 use Rattle.laws.specs.Laws.{PassWorks, effect_at}
-use Rattle.laws.specs.Repeats.{every_pass_works}
+use Rattle.laws.proofs.Repeats.{every_pass_works}
 use Rattle.laws.specs.OperandLaws.{Alike, operand_alike}
 use Rattle.division.specs.Division.{subc, SubcPass, SubcPasses, Divisor, Divides}
 use Rattle.division.specs.Digits.{subtracted_once, Digits, no_digit, next_digit, all_digits}
@@ -124,6 +124,6 @@ module _ (g : Given) (n d : ℕ) (h : Divisor d) where
 
 pub divides : Divides
 divides g d w few h p =
-    let a = passes g w.m.acc d h 0 16 w (no_digit w.m.acc d h.least few) p in
-    let halves = all_digits w.m.acc d (world_after g 16 w).m.acc h.least a.digits in
+    let a = passes g w.m.acc d h 0 _ w (no_digit w.m.acc d h.least few) p in
+    let halves = all_digits w.m.acc d _ h.least a.digits in
     record { quotient = halves.0; remainder = halves.1; overflow = a.overflow }

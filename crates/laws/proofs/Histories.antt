@@ -6,7 +6,7 @@ use Rattle.std.proofs.lemmas.Bool.{false≢true}
 use Prim.Native.Nat.{ℕ, zero, suc, ◌+◌, ◌-◌, ◌≤◌}
 use native.Mathlib.Omega.{arith}
 use Rattle.answers.specs.Numbers.{is_done}
-use Rattle.answers.specs.NumberLaws.{done_is}
+use Rattle.answers.proofs.NumberLaws.{done_is}
 use Rattle.board.specs.Given.{Given}
 use Rattle.steps.specs.declared.Outside.{Outside}
 use Rattle.steps.specs.declared.Plan.{Plan}
@@ -14,10 +14,10 @@ use Rattle.steps.specs.OperandFound.{none_outside}
 use Rattle.steps.specs.World.{World, RunOutcome}
 use Rattle.steps.specs.Step.{step_of, run_of}
 use Rattle.steps.specs.Tally.{plan_in, plans_of, tallied, both_outside, add_outside, outside_of}
-use Rattle.steps.specs.TallyLaws.{plans_done, plans_refused, plans_none, tally_append, few_outside}
+use Rattle.steps.proofs.TallyLaws.{plans_done, plans_refused, plans_none, tally_append, few_outside}
 use Rattle.laws.specs.Laws.{with_further, plans_of_steps, CountsOfARun, TalliesAdd, CountsAdd, TallyContinued, CountsContinued}
-use Rattle.laws.specs.Runs.{run_none, run_refused, run_done, by_first, runs_add}
-use Rattle.laws.specs.Continued.{step_further, world_same}
+use Rattle.laws.proofs.Runs.{run_none, run_refused, run_done, by_first, runs_add}
+use Rattle.laws.proofs.Continued.{step_further, world_same}
 
 -- ---- a history by the steps that its run reports
 

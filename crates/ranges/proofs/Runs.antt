@@ -24,9 +24,9 @@ use Rattle.steps.specs.RowLaws.{every, every_first}
 use Rattle.steps.specs.Refusals.{pass_rows, access_rows, rest_rows}
 use Rattle.steps.specs.TableLaws.{step_answer}
 use Rattle.laws.specs.Laws.{AllDone}
-use Rattle.laws.specs.Runs.{run_none, run_refused, run_done, by_first}
+use Rattle.laws.proofs.Runs.{run_none, run_refused, run_done, by_first}
 use Rattle.ranges.specs.Ranges.{WorldInRange, StartInRange, RunInRange, RunsInRange}
-use Rattle.ranges.specs.Steps.{step_in_range}
+use Rattle.ranges.proofs.Steps.{step_in_range}
 
 -- an answer that is neither 1 nor 2
 pub record Other (a : Answer) : Type 0 where

@@ -9,7 +9,7 @@ use borrow.Author.Tests.{lt-leb, not-false}
 use Rattle.machine.specs.declared.Machine.{Machine}
 use Rattle.answers.specs.declared.Answer.TheVariants.{Done}
 use Rattle.answers.specs.Numbers.{is_done}
-use Rattle.answers.specs.NumberLaws.{done_is}
+use Rattle.answers.proofs.NumberLaws.{done_is}
 use Rattle.instructions.specs.declared.Instruction.{Instruction}
 use Rattle.instructions.specs.declared.Instruction.TheVariants as Family
 use Rattle.instructions.specs.declared.Transfers.{Transfers}
@@ -35,8 +35,8 @@ use Rattle.steps.specs.RowLaws.{row_not}
 use Rattle.steps.specs.Tally.{plan_in}
 use Rattle.steps.specs.TableLaws.{step_plan}
 use Rattle.laws.specs.Laws.{continued, with_further, ContinuedWith, RunContinued}
-use Rattle.laws.specs.Steps.{◌and◌, row_given}
-use Rattle.laws.specs.Runs.{run_none, run_refused, run_done, by_first, none_before, one_before}
+use Rattle.laws.proofs.Steps.{◌and◌, row_given}
+use Rattle.laws.proofs.Runs.{run_none, run_refused, run_done, by_first, none_before, one_before}
 
 -- ---- a step that is done, with further words behind the input
 

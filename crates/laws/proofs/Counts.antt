@@ -29,7 +29,7 @@ use Rattle.steps.specs.Step.{page_plan, step_of}
 use Rattle.steps.specs.StoreLaws.{StoreAllowed, store_fits}
 use Rattle.steps.specs.TableLaws.{step_plan}
 use Rattle.steps.specs.Tally.{plan_in}
-use Rattle.steps.specs.TallyLaws.{step_has, few_outside, refused_none}
+use Rattle.steps.proofs.TallyLaws.{step_has, few_outside, refused_none}
 use Rattle.laws.specs.Laws.{external_among, addresses_read, addresses_written, CountsOfAStep, StoresByAddress, words_at}
 
 -- one address in external RAM or not

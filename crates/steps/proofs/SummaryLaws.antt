@@ -5,7 +5,7 @@ use Rattle.std.proofs.Common.{sym, ◌∙◌, ap, length-set}
 use Rattle.machine.specs.declared.Machine.{Machine}
 use Rattle.answers.specs.declared.Answer.TheVariants.{Done, SummaryUnfit}
 use Rattle.answers.specs.Numbers.{is_done}
-use Rattle.answers.specs.NumberLaws.{done_is}
+use Rattle.answers.proofs.NumberLaws.{done_is}
 use Rattle.board.specs.Given.{Given}
 use Rattle.steps.specs.declared.Plan.{Plan}
 use Rattle.steps.specs.declared.Write.{Write}
@@ -17,7 +17,7 @@ use Rattle.steps.specs.Step.{step_of, run_of}
 use Rattle.steps.specs.Table.{check_rows, checks_of}
 use Rattle.steps.specs.RowLaws.{all_refuse, first_append}
 use Rattle.steps.specs.Tally.{plan_in, plans_of, tallied, outside_of}
-use Rattle.steps.specs.TallyLaws.{refused_plan}
+use Rattle.steps.proofs.TallyLaws.{refused_plan}
 use Rattle.steps.specs.Summary.{summary_fits, counted_at, page_counted, word_counted, store_counted, add_store, summary_rows, rows_with, checks_with, begins_with, run_with, plans_with, outside_with, summary_with}
 
 -- ---- sizes

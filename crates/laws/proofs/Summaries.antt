@@ -31,14 +31,14 @@ use Rattle.steps.specs.Table.{checks_of}
 use Rattle.steps.specs.Step.{step_of, after_store, run_of}
 use Rattle.steps.specs.OperandFound.{none_outside}
 use Rattle.steps.specs.Tally.{plan_in, plans_of, tallied, add_outside, outside_of}
-use Rattle.steps.specs.TallyLaws.{plans_done, plans_refused, plans_none, no_plans, tally_append}
+use Rattle.steps.proofs.TallyLaws.{plans_done, plans_refused, plans_none, no_plans, tally_append}
 use Rattle.steps.specs.Summary.{summary_fits, fresh_summary, counted_at, page_counted, word_counted, store_counted, add_store, checks_with, begins_with, run_with, plans_with, outside_with, summary_with}
-use Rattle.steps.specs.SummaryLaws.{counted_sized, plan_sized, summary_sized, refused_checks, unfit_checks, fit_checks, unfit_refused, refused_run, refused_plans, refused_outside, refused_summary, begun_run, begun_plans, begun_summary}
+use Rattle.steps.proofs.SummaryLaws.{counted_sized, plan_sized, summary_sized, refused_checks, unfit_checks, fit_checks, unfit_refused, refused_run, refused_plans, refused_outside, refused_summary, begun_run, begun_plans, begun_summary}
 use Rattle.laws.specs.Laws.{continued, with_further, lying_in, addresses_written, page_first, page_last, written_into, stored_into, leaving_ov, LentRun, summary_after, history_of, rows_of_run_with, plans_of_steps, is_among, step_numbers, PlanOfAStep, RunWithIs, MovesCounted, SummaryAdds, SummariesAdd, SummaryIsHistory, SummarySplit, SummaryContinued}
-use Rattle.laws.specs.Steps.{first_given_lem, first_from, answers_of_checks}
-use Rattle.laws.specs.Runs.{run_none, run_of_none, by_first, unchecked, runs_add, answers_of_a_run}
-use Rattle.laws.specs.Counts.{stores_by_address}
-use Rattle.laws.specs.Histories.{over_steps_done, tallies_add, tally_continued}
+use Rattle.laws.proofs.Steps.{first_given_lem, first_from, answers_of_checks}
+use Rattle.laws.proofs.Runs.{run_none, run_of_none, by_first, unchecked, runs_add, answers_of_a_run}
+use Rattle.laws.proofs.Counts.{stores_by_address}
+use Rattle.laws.proofs.Histories.{over_steps_done, tallies_add, tally_continued}
 
 -- ---- with a summary of 64 numbers, and with another
 

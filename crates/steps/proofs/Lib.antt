@@ -1,0 +1,3 @@
+-- proofs
+pub mod TallyLaws
+pub mod SummaryLaws
