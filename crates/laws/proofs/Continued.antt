@@ -1,5 +1,5 @@
 -- A run with further words behind its input: proofs.
-use Rattle.std.specs.Prelude.{◌≡◌, Bool, ◌&&◌, List, ◌++◌, ℕ, zero, suc, ◌+◌, ◌-◌, ◌≤◌, length}
+use Rattle.std.specs.Prelude.{◌≡◌, Bool, ◌&&◌, List, ◌++◌, ℕ, zero, suc, ◌-◌, ◌≤◌, length}
 use Rattle.std.proofs.Math.Path.{refl, sym, ap}
 use Rattle.std.proofs.Common.{◌∙◌, arith, length-append}
 use Rattle.std.proofs.Math.Bool.{true, false, not}
@@ -13,7 +13,6 @@ use Rattle.answers.proofs.NumberLaws.{done_is}
 use Rattle.instructions.specs.declared.Instruction.{Instruction}
 use Rattle.instructions.specs.declared.Instruction.TheVariants as Family
 use Rattle.instructions.specs.declared.Transfers.{Transfers}
-use Rattle.instructions.specs.declared.Transfers.TheVariants as Transfers
 use Rattle.instructions.specs.declared.Decoded.{Decoded}
 use Rattle.instructions.specs.declared.Decoded.TheVariants.{Built, Unbuilt, Nothing}
 use Rattle.pages.specs.declared.Words.{Words}

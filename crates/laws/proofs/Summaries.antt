@@ -17,7 +17,6 @@ use Rattle.board.specs.Regions.{within, data_region, move_allowed}
 use Rattle.board.specs.RegionLaws.{bounds}
 use Rattle.steps.specs.declared.Plan.{Plan}
 use Rattle.steps.specs.declared.Write.{Write}
-use Rattle.steps.specs.declared.Write.TheVariants as Write
 use Rattle.steps.specs.StoreLaws.{WriteFits}
 use Rattle.steps.specs.StepLaws.{step_fits}
 use Rattle.steps.specs.Stores.{write_of}

@@ -21,7 +21,7 @@ use Rattle.ranges.proofs.Runs.{runs_in_range}
 use Rattle.line_fields.specs.Placing.{line_in, length_in}
 use Rattle.line_fields.specs.PlacingLaws.{line_length, number_length}
 use Rattle.line.specs.Lines.{refused_line, parted}
-use Rattle.line.specs.LineLaws.{line_of_lem}
+use Rattle.line.proofs.LineLaws.{line_of_lem}
 use Rattle.replay_line.specs.Replay.{start_of, replay_run, run_line, replay_line, given_of}
 use Rattle.replay_line.specs.Longest.{longest_line, LineWithin, LineWhole}
 use Rattle.replay_line.specs.Digits.{one_digit, two_digits, five_digits}
