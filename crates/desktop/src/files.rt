@@ -18,12 +18,7 @@ pub fn crowmitten_read(bytes: &[u8], input_count: &mut usize, budget: &mut u16) 
     read_counts(bytes, input_count, budget)
 }
 
-pub fn crowmitten_set_up(
-    bytes: &[u8],
-    rom: &mut [u16],
-    data: &mut [u16],
-    input: &mut [u16],
-) -> u32
+pub fn crowmitten_set_up(bytes: &[u8], rom: &mut [u16], data: &mut [u16], input: &mut [u16]) -> u32
     ensures answered { result ≡ number_of (set_up_answer bytes.now (lent rom.old «data».old input.old)) }
     ensures slices { lent rom.new «data».new input.new ≡ set_up bytes.now (lent rom.old «data».old input.old) }
 {

@@ -24,7 +24,6 @@ use Rattle.desktop.proofs.running.crowmitten_reset.Reads as CrowmittenReset
 use Rattle.desktop.proofs.running.crowmitten_step.Reads as CrowmittenStep
 use Rattle.desktop.proofs.running.crowmitten_run.Reads as CrowmittenRun
 use Rattle.desktop.proofs.running.crowmitten_run_with.Reads as CrowmittenRunWith
-use Rattle.desktop.proofs.running.crowmitten_summary_reset.Reads as CrowmittenSummaryReset
 use Rattle.desktop.proofs.sent.crowmitten_words_sent.Reads as CrowmittenWordsSent
 use Rattle.desktop.proofs.window.crowmitten_window.Reads as CrowmittenWindow
 use Rattle.runfile_setting_up.specs.SetUp.{lent}
@@ -38,8 +37,8 @@ use Rattle.one_result.specs.One.{OneOutcome, OneResult, pair, same, same_pair}
 abbrev run_shown : ℕ → Called → RunCalled
 run_shown steps after = record { steps = steps; after = after }
 
-abbrev run_with_shown : List ℕ → List ℕ → Called → RunWithCalled
-run_with_shown results summary after = record { results = results; summary = summary; after = after }
+abbrev run_with_shown : List ℕ → Called → RunWithCalled
+run_with_shown results after = record { results = results; after = after }
 
 pub length_answer : OneResult LengthAnswer.Post
 length_answer κs a r r' e e' p q = same p q
@@ -113,11 +112,8 @@ crowmitten_step κs a r r' e e' p q = same p q
 pub crowmitten_run : OneOutcome CrowmittenRun.Post (λ r e. run_shown e.1.1.1.1.1.1.0.now (called r e.0.now e.1.1.0.now e.1.1.1.1.0.now))
 crowmitten_run κs a r r' e e' p q = same p q
 
-pub crowmitten_run_with : OneOutcome CrowmittenRunWith.Post (λ r e. run_with_shown e.1.1.1.1.1.1.1.0.now e.1.1.1.1.1.0.now (called r e.0.now e.1.1.0.now e.1.1.1.1.0.now))
+pub crowmitten_run_with : OneOutcome CrowmittenRunWith.Post (λ r e. run_with_shown e.1.1.1.1.1.1.0.now (called r e.0.now e.1.1.0.now e.1.1.1.1.0.now))
 crowmitten_run_with κs a r r' e e' p q = same p q
-
-pub crowmitten_summary_reset : OneOutcome CrowmittenSummaryReset.Post (λ r e. pair r e.0.now)
-crowmitten_summary_reset κs a r r' e e' p q = same_pair (same p.0 q.0) (same p.1 q.1)
 
 pub crowmitten_words_sent : OneOutcome CrowmittenWordsSent.Post (λ r e. counted r e.1.1.0.now)
 crowmitten_words_sent κs a r r' e e' p q = same p q

@@ -1,5 +1,5 @@
 -- Laws of what `replay` prints: what is set up and run gives the definition's line, and a longer file can be cut.
-use Rattle.std.specs.Prelude.{◌≡◌, refl, Bool, true, false, cond, List, ◌++◌, ℕ, ◌+◌, ◌≤◌, ◌<◌, ltb, eqb, length, take, drop, get_or, replicate}
+use Rattle.std.specs.Prelude.{◌≡◌, refl, Bool, true, false, cond, List, ◌++◌, ℕ, ◌≤◌, ◌<◌, ltb, eqb, length, take, drop, get_or, replicate}
 use Rattle.std.proofs.Common.{sym, ◌∙◌, arith, length-append, take_all, length-take-le}
 use Rattle.std.proofs.Math.Path.{ap}
 use Rattle.std.proofs.Math.Seq.{get_or-take}

@@ -1,6 +1,5 @@
 use Rattle.emulator.specs.Totals.{apart_from}
 use mathlib.Core.Path.{refl}
-use borrow.Author.Rules.{rules}
 use Rattle.emulator.proofs.apart.Goals as goal
 
 pub returns : goal.returns

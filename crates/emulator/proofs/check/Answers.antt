@@ -1,6 +1,5 @@
 use Rattle.steps.specs.Table.{check_rows, checks_of}
 use Rattle.steps.specs.Rows.{first_given}
-use borrow.Author.Rules.{rules}
 use Rattle.std.proofs.Common.{ap}
 use mathlib.Core.Bool.{not}
 use Rattle.emulator.proofs.check.Goals as goal

@@ -4,11 +4,10 @@ use Rattle.steps.specs.declared.Plan.{Plan}
 use Rattle.steps.specs.Step.{step_of, after_store}
 use Rattle.steps.specs.Summary.{add_store}
 use Rattle.emulator.specs.RunLaws.{words_fit, table_plan, table_fits}
-use borrow.Author.Rules.{rules}
 use Rattle.emulator.proofs.checked_step.Goals as goal
 
 pub commit-requires : goal.commit-requires
-commit-requires c =     rw c.plan_fetched-p.ensures
+commit-requires c = rw c.plan_fetched-p.ensures
     (table_fits _ _ _ _ _ c.requires.0
     (words_fit c.args.rom.now (λ i. (c.shared_slice_known-2-1.given i).fits))
     (words_fit c.args.«data».now (λ i. (c.slice_known-1.given i).fits))
@@ -16,7 +15,7 @@ commit-requires c =     rw c.plan_fetched-p.ensures
 
 pub returns : goal.returns
 unfolding step_of after_store add_store
-returns c =     let plan = c.plan_fetched-p.ensures
+returns c = let plan = c.plan_fetched-p.ensures
     ∙ table_plan _ _ _ _ _ c.requires.0
     (words_fit c.args.rom.now (λ i. (c.shared_slice_known-2-1.given i).fits))
     (words_fit c.args.«data».now (λ i. (c.slice_known-1.given i).fits))

@@ -1,6 +1,5 @@
 use mathlib.Core.Path.{refl}
 use Rattle.steps.specs.Stores.{data_after, output_after}
-use borrow.Author.Rules.{rules}
 use Rattle.emulator.proofs.commit.Goals as goal
 
 pub store_data-requires : goal.store_data-requires

@@ -1,6 +1,5 @@
 use mathlib.Core.Path.{refl}
 use Rattle.emulator.specs.Totals.{in_one}
-use borrow.Author.Rules.{rules}
 use Rattle.emulator.proofs.in_one.Goals as goal
 
 pub returns : goal.returns

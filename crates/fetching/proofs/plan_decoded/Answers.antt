@@ -2,7 +2,6 @@
 use Rattle.steps.specs.Pass.{plan_by}
 use Rattle.steps.specs.Table.{encoding_rows}
 use Rattle.steps.specs.Stages.{decoded_plan, instruction_stages}
-use borrow.Author.Rules.{rules}
 use Rattle.fetching.proofs.plan_decoded.Goals as goal
 
 pub returns-in-Built : goal.returns-in-Built

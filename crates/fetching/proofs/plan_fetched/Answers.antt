@@ -1,7 +1,6 @@
 use Rattle.fetching.specs.ByTable.{fetch_plan_by}
 use Rattle.steps.specs.Pass.{plan_by}
 use Rattle.steps.specs.Table.{fetch_rows}
-use borrow.Author.Rules.{rules}
 use Rattle.std.proofs.Common.{ap}
 use mathlib.Core.Bool.{not}
 use Rattle.fetching.proofs.plan_fetched.Goals as goal
@@ -12,10 +11,10 @@ returns-then-not-program_present c = rw (c.refuse.ensures, ← c.program_present
 
 pub returns : goal.returns
 unfolding fetch_plan_by plan_by fetch_rows
-returns c =     rw (
-      c.plan_decoded.ensures,
-      c.decode_by.ensures,
-      c.program_word-word.ensures,
-      ← c.program_present.ensures,
-      (ap not c.if-not-program_present.false),
-    )
+returns c = rw (
+  c.plan_decoded.ensures,
+  c.decode_by.ensures,
+  c.program_word-word.ensures,
+  ← c.program_present.ensures,
+  (ap not c.if-not-program_present.false),
+)

@@ -1,4 +1,3 @@
-use borrow.Author.Rules.{rules}
 use Rattle.fetching.proofs.second_word.Goals as goal
 
 pub returns-then-two : goal.returns-then-two

@@ -1,5 +1,4 @@
 use Rattle.steps.specs.OperandFound.{operand_found}
-use borrow.Author.Rules.{rules}
 use Rattle.finding.proofs.find_operand.Goals as goal
 
 pub returns-in-None : goal.returns-in-None

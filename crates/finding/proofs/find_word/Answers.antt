@@ -2,7 +2,6 @@
 use native.Mathlib.Omega.{arith}
 use lib.ListN.{get_or-eq_default}
 use Rattle.board.specs.Finding.{found_at}
-use borrow.Author.Rules.{rules}
 use Rattle.finding.proofs.find_word.Goals as goal
 
 pub returns-then-i-data : goal.returns-then-i-data

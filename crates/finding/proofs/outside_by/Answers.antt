@@ -1,5 +1,4 @@
 use Rattle.steps.specs.OperandFound.{outside_by}
-use borrow.Author.Rules.{rules}
 use Rattle.finding.proofs.outside_by.Goals as goal
 
 pub returns-in-None : goal.returns-in-None

@@ -1,7 +1,6 @@
 -- Not routine: no row of the table has Done as its answer, so that the first answer is Done just where no row holds.
 use Rattle.steps.specs.OperandFound.{found_for}
 use Rattle.steps.specs.RefusalLaws.{pass_plan_lem}
-use borrow.Author.Rules.{rules}
 use Rattle.plans.proofs.plan_pass.Goals as goal
 
 pub perform-requires : goal.perform-requires
@@ -13,24 +12,24 @@ perform-requires c = record {
 
 pub returns-then-is_done : goal.returns-then-is_done
 unfolding found_for
-returns-then-is_done c =     rw (
-      c.perform.ensures,
-      pass_plan_lem,
-      ← c.address_of-address.ensures,
-      ← c.find_operand-found.ensures,
-      ← c.pass_refusal-answer.ensures,
-      ← c.is_done.ensures,
-      c.if-is_done.true,
-    )
+returns-then-is_done c = rw (
+  c.perform.ensures,
+  pass_plan_lem,
+  ← c.address_of-address.ensures,
+  ← c.find_operand-found.ensures,
+  ← c.pass_refusal-answer.ensures,
+  ← c.is_done.ensures,
+  c.if-is_done.true,
+)
 
 pub returns : goal.returns
 unfolding found_for
-returns c =     rw (
-      c.refuse.ensures,
-      pass_plan_lem,
-      ← c.address_of-address.ensures,
-      ← c.find_operand-found.ensures,
-      ← c.pass_refusal-answer.ensures,
-      ← c.is_done.ensures,
-      c.if-is_done.false,
-    )
+returns c = rw (
+  c.refuse.ensures,
+  pass_plan_lem,
+  ← c.address_of-address.ensures,
+  ← c.find_operand-found.ensures,
+  ← c.pass_refusal-answer.ensures,
+  ← c.is_done.ensures,
+  c.if-is_done.false,
+)

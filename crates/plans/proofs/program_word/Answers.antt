@@ -3,7 +3,6 @@ use mathlib.Core.Path.{sym}
 use native.Mathlib.Omega.{arith}
 use Rattle.board.specs.Windows.{program_word}
 use lib.ListN.{get_or-eq_default}
-use borrow.Author.Rules.{rules}
 use Rattle.plans.proofs.program_word.Goals as goal
 
 pub returns-then-window-gt0 : goal.returns-then-window-gt0

@@ -1,6 +1,5 @@
 use Rattle.pages.specs.Rules.{rule_of}
 use Rattle.plans.specs.PassWords.{with_port}
-use borrow.Author.Rules.{rules}
 use Rattle.plans.proofs.rule.Goals as goal
 
 pub returns-in-Accumulator : goal.returns-in-Accumulator

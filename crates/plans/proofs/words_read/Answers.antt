@@ -1,6 +1,5 @@
 use Rattle.steps.specs.Pass.{words_read}
 use Rattle.plans.specs.PassWords.{memory_words}
-use borrow.Author.Rules.{rules}
 use Rattle.plans.proofs.words_read.Goals as goal
 
 pub returns-then-t : goal.returns-then-t

@@ -1,5 +1,4 @@
 use Rattle.steps.specs.Refusals.{takes}
-use borrow.Author.Rules.{rules}
 use Rattle.refusals.proofs.is_input.Goals as goal
 
 pub returns-in-None : goal.returns-in-None

@@ -1,7 +1,6 @@
 use mathlib.Core.Path.{◌≡◌, refl, sym, ◌∙◌}
 use mathlib.Core.Bool.{Bool, true, false, ◌||◌}
 use Rattle.steps.specs.Refusals.{takes, sends}
-use borrow.Author.Rules.{rules}
 use Rattle.refusals.proofs.is_port_spent.Goals as goal
 
 or_none : (t : Bool) → t || false ≡ t

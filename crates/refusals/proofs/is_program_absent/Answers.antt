@@ -1,5 +1,4 @@
 use Rattle.board.specs.Regions.{program_present}
-use borrow.Author.Rules.{rules}
 use Rattle.refusals.proofs.is_program_absent.Goals as goal
 
 pub returns-then-needed : goal.returns-then-needed

@@ -1,5 +1,4 @@
 use Rattle.steps.specs.Refusals.{wrong_port}
-use borrow.Author.Rules.{rules}
 use Rattle.refusals.proofs.is_wrong_port.Goals as goal
 
 pub returns-in-None : goal.returns-in-None

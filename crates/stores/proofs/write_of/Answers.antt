@@ -3,14 +3,13 @@ use mathlib.Core.Path.{sym, ◌∙◌}
 use native.Mathlib.Omega.{arith}
 use Rattle.steps.specs.Stores.{write_of}
 use Rattle.board.specs.RegionLaws.{moves}
-use borrow.Author.Rules.{rules}
 use Rattle.stores.proofs.write_of.Goals as goal
 
 pub overflow_add-result : goal.overflow_add-result
-overflow_add-result c =     omega (
-      arith,
-      (moves _ c.args.cnf c.args.address (sym c.move_allowed.ensures ∙ c.if-move_allowed.true)).below,
-    )
+overflow_add-result c = omega (
+  arith,
+  (moves _ c.args.cnf c.args.address (sym c.move_allowed.ensures ∙ c.if-move_allowed.true)).below,
+)
 
 pub returns-then-move_allowed : goal.returns-then-move_allowed
 unfolding write_of

@@ -1,5 +1,4 @@
 use mathlib.Core.Path.{refl}
-use borrow.Author.Rules.{rules}
 use Rattle.steps.specs.Summary.{store_counted}
 use Rattle.summaries.proofs.count_store.Goals as goal
 

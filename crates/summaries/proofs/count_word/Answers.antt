@@ -6,7 +6,6 @@ use Prim.Native.Nat.{ℕ, ◌<◌}
 use native.Mathlib.Omega.{arith}
 use lib.Dec.{eqb, ltb}
 use lib.ListN.{length, length-set}
-use borrow.Author.Rules.{rules}
 use borrow.Author.Tests.{eqb-true, ltb-true, eq-eqb, ne_eqb}
 use Rattle.basic_laws.specs.Tests.{both_hold}
 use Rattle.steps.specs.Summary.{summary_fits, counted_at, page_counted, word_counted}

@@ -4,7 +4,6 @@ use mathlib.Core.Bool.{true}
 use mathlib.Core.List.{List}
 use Prim.Native.Nat.{ℕ}
 use lib.ListN.{length}
-use borrow.Author.Rules.{rules}
 use borrow.Author.Tests.{eqb-true, not-true, not-false}
 use Rattle.steps.specs.Summary.{summary_fits, summary_answer, reset_summary}
 use Rattle.std.proofs.Common.{ap}
@@ -21,5 +20,5 @@ returns-then-not-summary_fits c = let unfit = sym c.summary_fits.ensures ∙ not
 
 pub returns : goal.returns
 unfolding summary_answer reset_summary
-returns c =     let fits = sym c.summary_fits.ensures ∙ not-false _ (ap not c.if-not-summary_fits.false) in
+returns c = let fits = sym c.summary_fits.ensures ∙ not-false _ (ap not c.if-not-summary_fits.false) in
     record { answered = simp fits; fresh = simp fits (c.clear.ensures ∙ rw (of_64 _ fits)) }
