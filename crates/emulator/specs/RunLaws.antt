@@ -9,7 +9,7 @@ use Rattle.machine.specs.Range.{in_range}
 use Rattle.answers.specs.declared.Answer.{Answer}
 use Rattle.answers.specs.declared.Answer.TheVariants.{Done}
 use Rattle.answers.specs.Numbers.{is_done}
-use Rattle.answers.specs.NumberLaws.{done_is}
+use Rattle.answers.proofs.NumberLaws.{done_is}
 use Rattle.board.specs.Slices.{slices_fit}
 use Rattle.board.specs.Given.{Given}
 use Rattle.steps.specs.Rows.{NoneHolds}
@@ -34,8 +34,8 @@ use Rattle.emulator.specs.Totals.{in_one, apart_from}
 use Rattle.steps.proofs.RowLaws.{Refusals, all_refuse, none_from, row_not, plan_done, plan_by_first}
 use Rattle.ranges.specs.Ranges.{WordsFit, WorldInRange}
 use Rattle.ranges.specs.Operands.{program_word_lt}
-use Rattle.ranges.specs.Steps.{step_in_range}
-use Rattle.ranges.specs.Runs.{checks_done}
+use Rattle.ranges.proofs.Steps.{step_in_range}
+use Rattle.ranges.proofs.Runs.{checks_done}
 use borrow.Author.Tests.{not-false}
 
 module _ (g : Given) (d : List ℕ) (o : ℕ) (m : Machine) where

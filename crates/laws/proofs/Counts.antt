@@ -9,7 +9,6 @@ use Rattle.instructions.specs.declared.Instruction.{Instruction}
 use Rattle.instructions.specs.declared.Decoded.{Decoded}
 use Rattle.instructions.specs.declared.Decoded.TheVariants.{Built, Unbuilt, Nothing}
 use Rattle.pages.specs.declared.Access.{Access}
-use Rattle.pages.specs.declared.Access.TheVariants as Access
 use Rattle.pages.specs.declared.Store.{Store}
 use Rattle.pages.specs.declared.Store.TheVariants as Left
 use Rattle.pages.specs.Traits.{traits_of}

@@ -6,7 +6,7 @@ use Rattle.std.proofs.lemmas.Bool.{false≢true}
 use Prim.Native.Nat.{ℕ, zero, suc, ◌+◌, ◌-◌, ◌≤◌}
 use native.Mathlib.Omega.{arith}
 use Rattle.answers.specs.Numbers.{is_done}
-use Rattle.answers.specs.NumberLaws.{done_is}
+use Rattle.answers.proofs.NumberLaws.{done_is}
 use Rattle.board.specs.Given.{Given}
 use Rattle.steps.specs.declared.Outside.{Outside}
 use Rattle.steps.specs.declared.Plan.{Plan}

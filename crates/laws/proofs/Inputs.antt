@@ -6,17 +6,11 @@ use Rattle.operands.specs.declared.Address.{Address}
 use Rattle.instructions.specs.declared.Instruction.{Instruction}
 use Rattle.instructions.specs.declared.Instruction.TheVariants as Family
 use Rattle.instructions.specs.declared.Accumulator.{Accumulator}
-use Rattle.instructions.specs.declared.Accumulator.TheVariants as Accumulator
 use Rattle.instructions.specs.declared.Multiplier.{Multiplier}
-use Rattle.instructions.specs.declared.Multiplier.TheVariants as Multiplier
 use Rattle.instructions.specs.declared.Auxiliary.{Auxiliary}
-use Rattle.instructions.specs.declared.Auxiliary.TheVariants as Auxiliary
 use Rattle.instructions.specs.declared.Branches.{Branches}
-use Rattle.instructions.specs.declared.Branches.TheVariants as Branches
 use Rattle.instructions.specs.declared.Transfers.{Transfers}
-use Rattle.instructions.specs.declared.Transfers.TheVariants as Transfers
 use Rattle.instructions.specs.declared.Modes.{Modes}
-use Rattle.instructions.specs.declared.Modes.TheVariants as Modes
 use Rattle.pages.specs.Traits.{accumulator_traits, multiplier_traits, auxiliary_traits, branches_traits, transfers_traits, modes_traits, traits_of}
 use Rattle.steps.specs.Refusals.{takes}
 

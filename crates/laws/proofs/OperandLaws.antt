@@ -5,7 +5,6 @@ use Rattle.operands.specs.declared.Address.TheVariants as Mode
 use Rattle.operands.specs.declared.NextArp.{NextArp}
 use Rattle.operands.specs.declared.NextArp.TheVariants as Next
 use Rattle.pages.specs.declared.Operand.{Operand}
-use Rattle.pages.specs.declared.Operand.TheVariants as Operand
 use Rattle.pages.specs.Addressing.{pointed, modified, addressed}
 
 -- the cells that programs work with besides

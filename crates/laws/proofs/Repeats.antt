@@ -13,22 +13,16 @@ use Rattle.answers.specs.declared.Answer.TheVariants.{Done}
 use Rattle.instructions.specs.declared.Instruction.{Instruction}
 use Rattle.instructions.specs.declared.Instruction.TheVariants as Family
 use Rattle.instructions.specs.declared.Accumulator.{Accumulator}
-use Rattle.instructions.specs.declared.Accumulator.TheVariants as Accumulator
 use Rattle.pages.specs.AccumulatorRule.{accumulator_rule}
 use Rattle.instructions.specs.declared.Multiplier.{Multiplier}
-use Rattle.instructions.specs.declared.Multiplier.TheVariants as Multiplier
 use Rattle.pages.specs.MultiplierRule.{multiplier_rule}
 use Rattle.instructions.specs.declared.Auxiliary.{Auxiliary}
-use Rattle.instructions.specs.declared.Auxiliary.TheVariants as Auxiliary
 use Rattle.pages.specs.AuxiliaryRule.{auxiliary_rule}
 use Rattle.instructions.specs.declared.Modes.{Modes}
-use Rattle.instructions.specs.declared.Modes.TheVariants as Modes
 use Rattle.pages.specs.ModesRule.{modes_rule}
 use Rattle.instructions.specs.declared.Branches.{Branches}
-use Rattle.instructions.specs.declared.Branches.TheVariants as Branches
 use Rattle.pages.specs.BranchesRule.{branches_rule}
 use Rattle.instructions.specs.declared.Transfers.{Transfers}
-use Rattle.instructions.specs.declared.Transfers.TheVariants as Transfers
 use Rattle.pages.specs.TransfersRule.{transfers_rule}
 use Rattle.pages.specs.AccumulatorPages.{ADD, SUB, LAC, ADDH, ADDS, SUBH, SUBS, SUBC, ZALH, ZALS, AND, OR, XOR, SACL, SACH, LACK, ADDK, SUBK, CMPL, NEG, ABS, SFL, SFR}
 use Rattle.pages.specs.MultiplierPages.{table_address, LT, LTA, LTP, LTD, LTS, MPY, MPYA, MPYS, MPYK, SQRA, SQRS, MAC, MACD, PAC, APAC, SPAC, SPL, SPH, SPM}
@@ -43,7 +37,6 @@ use Rattle.pages.specs.declared.Effect.{Effect}
 use Rattle.pages.specs.declared.Jump.TheVariants as Jump
 use Rattle.pages.specs.Passes.{destination, followed}
 use Rattle.pages.specs.declared.Operand.{Operand}
-use Rattle.pages.specs.declared.Operand.TheVariants as Operand
 use Rattle.pages.specs.declared.Traits.{Traits}
 use Rattle.pages.specs.Traits.{accumulator_traits, multiplier_traits, auxiliary_traits, branches_traits, transfers_traits, modes_traits, traits_of}
 use Rattle.pages.specs.Addressing.{pointed, modified, addressed, address_of}

@@ -5,7 +5,6 @@ use Rattle.machine.specs.declared.Machine.{Machine}
 use Rattle.answers.specs.declared.Answer.TheVariants.{Done, ProgramAbsent, OutputFull, InputDry}
 use Rattle.answers.specs.Numbers.{is_done}
 use Rattle.pages.specs.declared.Port.{Port}
-use Rattle.pages.specs.declared.Port.TheVariants as Port
 use Rattle.pages.specs.declared.Traits.{Traits}
 use Rattle.board.specs.declared.Region.{Region}
 use Rattle.steps.specs.OperandFound.{found_for}

@@ -6,29 +6,22 @@ use Rattle.machine.specs.declared.Machine.{Machine}
 use Rattle.instructions.specs.declared.Instruction.{Instruction}
 use Rattle.instructions.specs.declared.Instruction.TheVariants as Family
 use Rattle.instructions.specs.declared.Accumulator.{Accumulator}
-use Rattle.instructions.specs.declared.Accumulator.TheVariants as Accumulator
 use Rattle.pages.specs.AccumulatorRule.{accumulator_rule}
 use Rattle.instructions.specs.declared.Multiplier.{Multiplier}
-use Rattle.instructions.specs.declared.Multiplier.TheVariants as Multiplier
 use Rattle.pages.specs.MultiplierRule.{multiplier_rule}
 use Rattle.instructions.specs.declared.Auxiliary.{Auxiliary}
-use Rattle.instructions.specs.declared.Auxiliary.TheVariants as Auxiliary
 use Rattle.pages.specs.AuxiliaryRule.{auxiliary_rule}
 use Rattle.instructions.specs.declared.Modes.{Modes}
-use Rattle.instructions.specs.declared.Modes.TheVariants as Modes
 use Rattle.pages.specs.ModesRule.{modes_rule}
 use Rattle.instructions.specs.declared.Branches.{Branches}
-use Rattle.instructions.specs.declared.Branches.TheVariants as Branches
 use Rattle.pages.specs.BranchesPages.{branched, B, BANZ, BZ, BNZ, BGZ, BGEZ, BLZ, BLEZ, BV, BNV, CALL, RET}
 use Rattle.pages.specs.BranchesRule.{branches_rule}
 use Rattle.instructions.specs.declared.Transfers.{Transfers}
-use Rattle.instructions.specs.declared.Transfers.TheVariants as Transfers
 use Rattle.pages.specs.TransfersPages.{DMOV, IN, OUT}
 use Rattle.pages.specs.TransfersRule.{transfers_rule}
 use Rattle.pages.specs.declared.Store.{Store}
 use Rattle.pages.specs.declared.Store.TheVariants as Left
 use Rattle.pages.specs.declared.Access.{Access}
-use Rattle.pages.specs.declared.Access.TheVariants as Access
 use Rattle.pages.specs.Traits.{accumulator_traits, multiplier_traits, auxiliary_traits, branches_traits, transfers_traits, modes_traits, traits_of}
 use Rattle.pages.specs.declared.Words.{Words}
 use Rattle.pages.specs.Rules.{rule_of}
@@ -38,7 +31,6 @@ use Rattle.board.specs.Regions.{present, move_allowed}
 use Rattle.board.specs.RegionLaws.{present_below, moves}
 use Rattle.board.specs.Given.{Given}
 use Rattle.steps.specs.declared.Write.{Write}
-use Rattle.steps.specs.declared.Write.TheVariants as Write
 use Rattle.steps.specs.OperandFound.{operand_found, found_for}
 use Rattle.steps.specs.Refusals.{accesses, data_absent}
 use Rattle.steps.specs.Stores.{write_of}

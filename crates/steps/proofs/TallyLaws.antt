@@ -13,7 +13,6 @@ use Rattle.answers.specs.Numbers.{is_done}
 use Rattle.instructions.specs.declared.Decoded.{Decoded}
 use Rattle.instructions.specs.declared.Decoded.TheVariants.{Built, Unbuilt, Nothing}
 use Rattle.pages.specs.declared.Access.{Access}
-use Rattle.pages.specs.declared.Access.TheVariants as Access
 use Rattle.board.specs.declared.Region.{Region}
 use Rattle.board.specs.RegionLaws.{one_access}
 use Rattle.board.specs.Given.{Given}

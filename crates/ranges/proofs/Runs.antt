@@ -26,7 +26,7 @@ use Rattle.steps.proofs.TableLaws.{step_answer}
 use Rattle.laws.specs.Laws.{AllDone}
 use Rattle.laws.proofs.Runs.{run_none, run_refused, run_done, by_first}
 use Rattle.ranges.specs.Ranges.{WorldInRange, StartInRange, RunInRange, RunsInRange}
-use Rattle.ranges.specs.Steps.{step_in_range}
+use Rattle.ranges.proofs.Steps.{step_in_range}
 
 -- an answer that is neither 1 nor 2
 pub record Other (a : Answer) : Type 0 where

@@ -5,7 +5,7 @@ use Rattle.machine.specs.declared.Machine.{Machine}
 use Rattle.machine.specs.RangeLaws.{ranged, most}
 use Rattle.answers.specs.declared.Answer.TheVariants.{Done}
 use Rattle.answers.specs.Numbers.{number_of, is_done}
-use Rattle.answers.specs.NumberLaws.{done_is, number_below}
+use Rattle.answers.proofs.NumberLaws.{done_is, number_below}
 use Rattle.board.specs.SliceLaws.{slices_fit_lem}
 use Rattle.board.specs.Windows.{words_sent, words_sent_answer}
 use Rattle.board.specs.Given.{Given}
@@ -17,11 +17,11 @@ use Rattle.steps.specs.World.{World, RunOutcome}
 use Rattle.steps.specs.Step.{step_of, run_of}
 use Rattle.laws.proofs.Runs.{run_none, run_done, run_refused, by_first}
 use Rattle.ranges.specs.Ranges.{WorldInRange}
-use Rattle.ranges.specs.Runs.{runs_in_range}
+use Rattle.ranges.proofs.Runs.{runs_in_range}
 use Rattle.line_fields.specs.Placing.{line_in, length_in}
 use Rattle.line_fields.specs.PlacingLaws.{line_length, number_length}
 use Rattle.line.specs.Lines.{refused_line, parted}
-use Rattle.line.specs.LineLaws.{line_of_lem}
+use Rattle.line.proofs.LineLaws.{line_of_lem}
 use Rattle.replay_line.specs.Replay.{start_of, replay_run, run_line, replay_line, given_of}
 use Rattle.replay_line.specs.Longest.{longest_line, LineWithin, LineWhole}
 use Rattle.replay_line.specs.Digits.{one_digit, two_digits, five_digits}

@@ -15,7 +15,7 @@ use Rattle.alu.specs.Shifts.{extended, operand}
 use Rattle.alu.specs.PageSums.{alu_output, subtracted_conditionally}
 use Rattle.sums.specs.SumLaws.{holds_in}
 use Rattle.machine.specs.declared.Machine.{Machine}
-use Rattle.answers.specs.NumberLaws.{done_is}
+use Rattle.answers.proofs.NumberLaws.{done_is}
 use Rattle.instructions.specs.declared.Instruction.{Instruction}
 use Rattle.pages.specs.declared.Operand.TheVariants.{At}
 use Rattle.pages.specs.Traits.{traits_of, accumulator_traits}
@@ -124,6 +124,6 @@ module _ (g : Given) (n d : ℕ) (h : Divisor d) where
 
 pub divides : Divides
 divides g d w few h p =
-    let a = passes g w.m.acc d h 0 16 w (no_digit w.m.acc d h.least few) p in
-    let halves = all_digits w.m.acc d (world_after g 16 w).m.acc h.least a.digits in
+    let a = passes g w.m.acc d h 0 _ w (no_digit w.m.acc d h.least few) p in
+    let halves = all_digits w.m.acc d _ h.least a.digits in
     record { quotient = halves.0; remainder = halves.1; overflow = a.overflow }

@@ -7,7 +7,7 @@ use borrow.Author.Tests.{le-leb, eq-eqb}
 use Rattle.machine.specs.declared.Machine.{Machine}
 use Rattle.machine.specs.RangeLaws.{ranged, in_range_lem}
 use Rattle.answers.specs.declared.Answer.TheVariants.{Done}
-use Rattle.answers.specs.NumberLaws.{done_is}
+use Rattle.answers.proofs.NumberLaws.{done_is}
 use Rattle.instructions.specs.declared.Instruction.{Instruction}
 use Rattle.instructions.specs.declared.Decoded.{Decoded}
 use Rattle.instructions.specs.declared.Decoded.TheVariants.{Built, Unbuilt, Nothing}
@@ -39,7 +39,7 @@ use Rattle.laws.proofs.Steps.{refused_unchanged, row_given}
 use Rattle.laws.proofs.Runs.{by_first}
 use Rattle.ranges.specs.Ranges.{WordsFit, WorldInRange, StepInRange}
 use Rattle.ranges.specs.Fields.{FieldsFit, DecodedFits}
-use Rattle.ranges.specs.FieldLaws.{fields_at}
+use Rattle.ranges.proofs.FieldLaws.{fields_at}
 use Rattle.ranges.specs.Cells.{Fits, words_set, set_cell, cell_fits}
 use Rattle.ranges.specs.Widths.{sum_lt}
 use Rattle.ranges.specs.Rules.{StoreFits, JumpFits, EffectFits, rule_keeps}

@@ -30,7 +30,7 @@ use Rattle.steps.specs.Table.{decoded_at, table_for, check_rows, fetch_rows, enc
 use Rattle.steps.specs.Step.{page_plan, plan_of, after_store, step_of, run_of, rows_of}
 use Rattle.steps.proofs.RowLaws.{plan_answer}
 use Rattle.ranges.specs.Fields.{OperandFits}
-use Rattle.ranges.specs.FieldLaws.{decoded_operand}
+use Rattle.ranges.proofs.FieldLaws.{decoded_operand}
 use Rattle.ranges.specs.Retired.{AddressBelow, address_above, NoneAbove, with_row_before, former_rows, former_plan, former_step, former_run, EightRetired, FormerOrder}
 
 -- ---- the address
@@ -71,30 +71,13 @@ module _ (name : String) (r : Row) (m : Machine) (p : Plan) where
 
 module _ (a : Answer) (g : Given) (w : World) where
   -- where check 1 refuses, both tables begin with its row; where it does not, 8's row does not hold
-  same_plan : (p : Plan) → plan_by (former_rows a g w) w.m p ≡ plan_by (rows_of g w) w.m p
+  pub same_plan : (p : Plan) → plan_by (former_rows a g w) w.m p ≡ plan_by (rows_of g w) w.m p
   unfolding former_rows with_row_before plan_by table_for check_rows
   same_plan p = by (in_range w.m) refl
     where
       by : (t : Bool) → in_range w.m ≡ t → plan_by (former_rows a g w) w.m p ≡ plan_by (rows_of g w) w.m p
       by true e = row_more "6" _ w.m p (none_above g w.«data» w.m e) (rows_of g w)
       by false e = rw e
-
-  same_answer : first_given (former_rows a g w) ≡ first_given (rows_of g w)
-  same_answer =
-      let done = refused w.m Done in
-      sym (plan_answer w.m done (former_rows a g w) refl) ∙ (ap (λ (p : Plan). p.answer) (same_plan done) ∙ plan_answer w.m done (rows_of g w) refl)
-
-  same_step : former_step a g w ≡ step_of g w
-  unfolding former_step former_plan step_of plan_of
-  same_step = ap (λ (p : Plan). record { world = after_store p w; answer = p.answer }) (same_plan (page_plan (decoded_at g w.«data» w.m) g w.«data» w.m))
-
-same_run : (a : Answer) (g : Given) (n : ℕ) (w : World) → former_run a g n w ≡ run_of g n w
-unfolding former_run run_of
-same_run a g zero w = refl
-same_run a g (suc n) w = rw (same_step a g w, same_run a g n (step_of g w).world)
-
-pub eight_retired : (a : Answer) (g : Given) (w : World) → EightRetired a g w
-eight_retired a g w = record { same_answer = same_answer a g w; same_step = same_step a g w; same_run = λ budget. same_run a g budget w }
 
 -- 8's row stands where document 01's order has it
 pub former_order : FormerOrder

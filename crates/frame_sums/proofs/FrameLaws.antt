@@ -5,7 +5,7 @@ use Rattle.std.proofs.Math.Decide.{dec_le}
 use Rattle.alu.specs.Whole.{up, minus_is, times_is, le_from}
 use Rattle.alu.specs.Word.{signed}
 use Rattle.frame_sums.specs.Frames.{Pair, from_zero, passed, stacked, exact_sum, Bounded, Words, AllLeast}
-use Rattle.frame_sums.specs.PassSums.{floors, from_zero_lem, add_fits, add_over, floors_near, floors_in, floors_top, floors_least}
+use Rattle.frame_sums.proofs.PassSums.{floors, from_zero_lem, add_fits, add_over, floors_near, floors_in, floors_top, floors_least}
 
 -- In up to 128 passes OV stays 0: only the final product add can set it
 pub passes_keep_ov : (ws : List Pair) (ovm : ℕ) → length ws ≤ 128 → Words ws → (passed 3 ovm ws from_zero).ov ≡ 0

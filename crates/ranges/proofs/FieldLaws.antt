@@ -10,7 +10,7 @@ use Rattle.instructions.specs.Encoding.{Page, pick, has, means, first, address_m
 use Rattle.instructions.specs.Pages.{pages}
 use Rattle.instructions.specs.Decode.{decode_of}
 use Rattle.encodings.specs.Rows.{is_operand, is_branch_page}
-use Rattle.encodings.specs.Back.{fields_within, head_or, rest}
+use Rattle.encodings.proofs.Back.{fields_within, head_or, rest}
 use Rattle.pages.specs.declared.Operand.{Operand}
 use Rattle.pages.specs.declared.Operand.TheVariants as Operand
 use Rattle.pages.specs.Traits.{traits_of, accumulator_traits, multiplier_traits, auxiliary_traits, branches_traits, transfers_traits, modes_traits}
