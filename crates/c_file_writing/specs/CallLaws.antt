@@ -3,7 +3,7 @@ use Rattle.std.specs.Prelude.{◌≡◌, true, false, List, ℕ, length}
 use Rattle.std.proofs.Math.Path.{sym}
 use Rattle.std.proofs.Common.{◌∙◌}
 use Rattle.answers.specs.Numbers.{is_done}
-use Rattle.answers.specs.NumberLaws.{done_is}
+use Rattle.answers.proofs.NumberLaws.{done_is}
 use Rattle.runfile.specs.Files.{Contents, file_length, contents_fit}
 use Rattle.runfile.specs.Facts.{CountsKept}
 use Rattle.runfile.specs.FileLaws.{counts_facts, file_length_lem}

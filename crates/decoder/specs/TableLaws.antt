@@ -2,7 +2,7 @@
 use Rattle.std.specs.Prelude.{◌≡◌, ℕ, ◌/◌, ◌<◌}
 use Rattle.std.proofs.Common.{arith}
 use Rattle.instructions.specs.Decode.{decode_of}
-use Rattle.kinds.specs.Kinds.{decode_by_place}
+use Rattle.kinds.proofs.PlaceLaws.{decode_by_place}
 use Rattle.kinds.specs.Table.{kind_table, kinds_right}
 use Rattle.decoder.specs.ByTable.{decode_by}
 

@@ -7,7 +7,7 @@ use Rattle.answers.specs.declared.Answer.{Answer}
 use Rattle.answers.specs.Numbers.{number_of, is_done}
 use Rattle.steps.specs.World.{World}
 use Rattle.steps.specs.Step.{step_of, run_of}
-use Rattle.laws.specs.Steps.{refused_unchanged}
+use Rattle.laws.proofs.Steps.{refused_unchanged}
 use Rattle.c_cells.specs.Checks.{cells_answer}
 use Rattle.c_cell_laws.specs.CellLaws.{cells_machine}
 use Rattle.desktop.specs.Calls.{called, world_of, world_called, step_called, run_called}

@@ -1,7 +1,6 @@
 -- the statements
 pub mod Division
 pub mod Exposure
--- proofs
+-- laws that the proofs cite
 pub mod Digits
-pub mod DivisionLaws
 pub mod ExposureLaws

@@ -9,33 +9,33 @@ use Rattle.machine.specs.Range.{in_range}
 use Rattle.answers.specs.declared.Answer.{Answer}
 use Rattle.answers.specs.declared.Answer.TheVariants.{Done}
 use Rattle.answers.specs.Numbers.{is_done}
-use Rattle.answers.specs.NumberLaws.{done_is}
+use Rattle.answers.proofs.NumberLaws.{done_is}
 use Rattle.board.specs.Slices.{slices_fit}
 use Rattle.board.specs.Given.{Given}
 use Rattle.steps.specs.Rows.{NoneHolds}
 use Rattle.steps.specs.Stores.{data_after, output_after}
 use Rattle.steps.specs.Pass.{refused}
-use Rattle.steps.specs.StoreLaws.{WriteFits}
+use Rattle.steps.proofs.StoreLaws.{WriteFits}
 use Rattle.steps.specs.World.{World, Outcome, RunOutcome}
 use Rattle.steps.specs.Table.{checks_of, check_rows}
 use Rattle.steps.specs.Step.{plan_of, after_store, step_of, run_of, one_more}
-use Rattle.steps.specs.Stages.{fetch_plan, stages}
+use Rattle.steps.proofs.Stages.{fetch_plan, stages}
 use Rattle.kinds.specs.Table.{kind_table}
 use Rattle.fetching.specs.ByTable.{fetch_plan_by}
 use Rattle.fetching.specs.TableLaws.{fetch_by_kinds}
-use Rattle.steps.specs.StepLaws.{step_fits, Running, running_begins, running_goes, running_stops, running_ends}
+use Rattle.steps.proofs.StepLaws.{step_fits, Running, running_begins, running_goes, running_stops, running_ends}
 use Rattle.steps.specs.declared.Outside.{Outside}
 use Rattle.steps.specs.OperandFound.{none_outside}
 use Rattle.steps.specs.Tally.{plan_in, plans_of, tallied, both_outside, add_outside, outside_of}
-use Rattle.steps.specs.TallyLaws.{few_outside, Tallying, tallying_begins, tallying_goes, tallying_stops, tallying_ends, no_plans}
+use Rattle.steps.proofs.TallyLaws.{few_outside, Tallying, tallying_begins, tallying_goes, tallying_stops, tallying_ends, no_plans}
 use Rattle.steps.specs.Summary.{add_store}
-use Rattle.steps.specs.SummaryLaws.{plan_sized, refused_adds}
+use Rattle.steps.proofs.SummaryLaws.{plan_sized, refused_adds}
 use Rattle.emulator.specs.Totals.{in_one, apart_from}
-use Rattle.steps.specs.RowLaws.{Refusals, all_refuse, none_from, row_not, plan_done, plan_by_first}
+use Rattle.steps.proofs.RowLaws.{Refusals, all_refuse, none_from, row_not, plan_done, plan_by_first}
 use Rattle.ranges.specs.Ranges.{WordsFit, WorldInRange}
 use Rattle.ranges.specs.Operands.{program_word_lt}
-use Rattle.ranges.specs.Steps.{step_in_range}
-use Rattle.ranges.specs.Runs.{checks_done}
+use Rattle.ranges.proofs.Steps.{step_in_range}
+use Rattle.ranges.proofs.Runs.{checks_done}
 use borrow.Author.Tests.{not-false}
 
 module _ (g : Given) (d : List ℕ) (o : ℕ) (m : Machine) where

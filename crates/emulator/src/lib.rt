@@ -5,7 +5,7 @@ ghost use Rattle.std.specs.Prelude.{◌≡◌, ◌<◌, length, set};
 ghost use Rattle.answers.specs.declared.Answer.TheVariants.{Done};
 ghost use Rattle.kinds.specs.Table.{kind_table};
 ghost use Rattle.steps.specs.Stores.{data_after, output_after};
-ghost use Rattle.steps.specs.StoreLaws.{WriteFits};
+ghost use Rattle.steps.proofs.StoreLaws.{WriteFits};
 ghost use Rattle.steps.specs.Table.{checks_of};
 ghost use Rattle.steps.specs.Step.{step_of, run_of};
 ghost use Rattle.steps.specs.Tally.{plan_in, plans_of, tallied, outside_of};

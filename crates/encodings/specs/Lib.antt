@@ -6,4 +6,3 @@ pub mod Bits
 pub mod Spelled
 pub mod Rows
 pub mod Cleared
-pub mod Back

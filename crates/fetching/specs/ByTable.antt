@@ -6,7 +6,7 @@ use Rattle.board.specs.Windows.{program_word}
 use Rattle.board.specs.Given.{Given}
 use Rattle.steps.specs.declared.Plan.{Plan}
 use Rattle.steps.specs.Pass.{plan_by}
-use Rattle.steps.specs.Stages.{decoded_plan}
+use Rattle.steps.proofs.Stages.{decoded_plan}
 use Rattle.steps.specs.Table.{fetch_rows}
 
 unfoldable pub fetch_plan_by : List ℕ → Given → List ℕ → ℕ → Machine → Plan

@@ -6,7 +6,7 @@ use Rattle.decoder.specs.TableLaws.{decode_by_kinds}
 use Rattle.board.specs.Windows.{program_word}
 use Rattle.board.specs.Given.{Given}
 use Rattle.steps.specs.Table.{decoded_at}
-use Rattle.steps.specs.Stages.{fetch_plan}
+use Rattle.steps.proofs.Stages.{fetch_plan}
 use Rattle.fetching.specs.ByTable.{fetch_plan_by}
 
 pub fetch_by_kinds : (g : Given) («data» : List ℕ) (output_length : ℕ) (m : Machine) → program_word m.cnf m.pc g.rom «data» < 65536

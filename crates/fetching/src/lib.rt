@@ -4,7 +4,7 @@
 ghost use Rattle.std.specs.Prelude.{◌≡◌, cond, not, ◌&&◌, ltb};
 ghost use Rattle.board.specs.Windows.{program_word};
 ghost use Rattle.board.specs.Given.{given};
-ghost use Rattle.steps.specs.Stages.{instruction_plan, decoded_plan};
+ghost use Rattle.steps.proofs.Stages.{instruction_plan, decoded_plan};
 ghost use Rattle.fetching.specs.ByTable.{fetch_plan_by};
 
 use answers::Answer;

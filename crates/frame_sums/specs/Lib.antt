@@ -1,9 +1,5 @@
 -- definitions
 pub mod Frames
 pub mod FrameCases
--- the law, and the computed cases
-pub mod FrameLaws
-pub mod CaseLaws
--- laws that their proofs cite
+-- laws that the proofs of the law cite
 pub mod ProductBounds
-pub mod PassSums

@@ -65,17 +65,17 @@ same_as (e ∷ es) [] = false
 same_as (e ∷ es) (f ∷ fs) = both (eqb e.0 f.0) (both (eqt e.1 f.1) (same_as es fs))
 
 -- Test: the pages es are those of the kind k.
-agree : List (ℕ × String) → ℕ → Bool
+pub agree : List (ℕ × String) → ℕ → Bool
 agree es k =
     pick (is_addressed k) (headed k "IDDD DDDD" es)
     (pick (is_branch k) (headed k "1DDD DDDD" es)
     (pick (ltb k 200) (headed k "KKKK KKKK" es) (same_as es (group_of k))))
 
-agree_at : ℕ → List (ℕ × String) → Bool
+unfoldable pub agree_at : ℕ → List (ℕ × String) → Bool
 agree_at u es = agree es (kind_at u (first_of es))
 
 -- the agreement of kinds and pages, over all upper bytes
-agreed : T (at_uppers agree_at)
+pub agreed : T (at_uppers agree_at)
 unfolding agree agree_at is_addressed is_branch same_as headed shadowed none_of group_of pages_of kind_of low_fits
 agreed = tt
 
@@ -129,7 +129,7 @@ every_low : (k low : ℕ) → pick (low_fits "KKKK KKKK" low) k 133 ≡ k
 unfolding low_fits
 every_low k low = refl
 
-agree_lower : (es : List (ℕ × String)) (k low : ℕ) → low < 256 → T (agree es k) → lower_in 133 es low ≡ place_of_kind k low
+pub agree_lower : (es : List (ℕ × String)) (k low : ℕ) → low < 256 → T (agree es k) → lower_in 133 es low ≡ place_of_kind k low
 unfolding agree place_of_kind
 agree_lower es k low h t = go (is_addressed k) (is_branch k) (ltb k 200) t
   where
@@ -142,17 +142,6 @@ agree_lower es k low h t = go (is_addressed k) (is_branch k) (ltb k 200) t
     go false true c t = headed_lower k "1DDD DDDD" es low h t
     go false false true t = headed_lower k "KKKK KKKK" es low h t ∙ every_low k low
     go false false false t = same_lower es (group_of k) low t
-
--- the place of a word's page, from the kind of its upper byte and its low byte
-pub place_of_kind_lem : (w : ℕ) → w < 65536 → place_in pages w ≡ place_of_kind (kind_of (w / 256)) (w % 256)
-unfolding kind_of agree_at pages_of
-place_of_kind_lem w h =
-    sym (by_bytes pages 0 w ∙ zero-add (place_in pages w))
-    ∙ agree_lower (upper_in (w / 256) 0 pages) (kind_of (w / 256)) (w % 256) (omega arith)
-    (upper_at agree_at agreed (w / 256) (omega arith))
-
-pub decode_by_place : (w : ℕ) → w < 65536 → decode_of w ≡ meaning_at (place_of_kind (kind_of (w / 256)) (w % 256)) w
-decode_by_place w h = decode_at_place w ∙ ap (λ (p : ℕ). meaning_at p w) (place_of_kind_lem w h)
 
 -- Test: each of the 256 entries is its upper byte's kind.
 unfoldable pub right_table : List ℕ → Bool

@@ -12,7 +12,6 @@ use Rattle.instructions.specs.declared.Instruction.TheVariants.{Transfers}
 use Rattle.instructions.specs.declared.Transfers.TheVariants.{In}
 use Rattle.instructions.specs.declared.Decoded.TheVariants.{Built, Nothing}
 use Rattle.pages.specs.declared.Access.{Access}
-use Rattle.pages.specs.declared.Access.TheVariants as Access
 use Rattle.pages.specs.Traits.{traits_of}
 use Rattle.pages.specs.Addressing.{address_of}
 use Rattle.pages.specs.declared.Words.{Words}
@@ -28,7 +27,6 @@ use Rattle.board.specs.Given.{Given}
 use Rattle.steps.specs.declared.Outside.{Outside}
 use Rattle.steps.specs.declared.Plan.{Plan}
 use Rattle.steps.specs.declared.Write.{Write}
-use Rattle.steps.specs.declared.Write.TheVariants as Write
 use Rattle.steps.specs.Rows.{Row, row, first_given, NoneHolds}
 use Rattle.steps.specs.OperandFound.{found_for, none_outside}
 use Rattle.steps.specs.Refusals.{wrong_port, data_absent, input_dry}

@@ -1,4 +1,2 @@
 -- definitions
 pub mod Lines
--- laws
-pub mod LineLaws

@@ -2,12 +2,8 @@
 pub mod Ranges
 pub mod Fields
 pub mod Retired
--- proofs
-pub mod FieldLaws
-pub mod RetiredLaws
+-- laws that the proofs cite
 pub mod Cells
 pub mod Widths
 pub mod Rules
 pub mod Operands
-pub mod Steps
-pub mod Runs

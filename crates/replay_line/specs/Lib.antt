@@ -1,7 +1,6 @@
 -- definitions
 pub mod Replay
 pub mod Longest
--- proofs
+-- laws that the proofs cite
 pub mod Digits
 pub mod Start
-pub mod LongestLaws

@@ -7,7 +7,7 @@ use Rattle.runfile.specs.Facts.{Below, CountsKept, SixteenBits}
 use Rattle.runfile_setting_up.specs.SetUp.{memory_with, loaded}
 use Rattle.runfile_setting_up.specs.MemoryLaws.{memory_length}
 use Rattle.ranges.specs.Ranges.{WordsFit, WorldInRange}
-use Rattle.ranges.specs.Runs.{start_in_range}
+use Rattle.ranges.proofs.Runs.{start_in_range}
 use Rattle.replay_line.specs.Replay.{given_of, start_of}
 
 words_fit : (words : List ℕ) → Below 65536 words → WordsFit words

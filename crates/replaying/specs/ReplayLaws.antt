@@ -20,7 +20,7 @@ use Rattle.steps.specs.Step.{run_of}
 use Rattle.line_fields.specs.Placing.{line_in, length_in}
 use Rattle.line.specs.Lines.{line_of, refused_line}
 use Rattle.replay_line.specs.Longest.{longest_line}
-use Rattle.replay_line.specs.LongestLaws.{line_whole}
+use Rattle.replay_line.proofs.LongestLaws.{line_whole}
 use Rattle.replay_line.specs.Replay.{start_of, replay_run, run_line, replay_line, given_of}
 use Rattle.replaying.specs.Facts.{FreshSlices}
 

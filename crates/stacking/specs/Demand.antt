@@ -7,7 +7,7 @@ use native.Mathlib.Omega.{arith}
 use Rattle.std.proofs.Math.Decide.{dec_le}
 use Rattle.alu.specs.Registers.{wrapped_sum}
 use Rattle.answers.specs.Numbers.{is_done}
-use Rattle.answers.specs.NumberLaws.{done_is}
+use Rattle.answers.proofs.NumberLaws.{done_is}
 use Rattle.instructions.specs.declared.Instruction.TheVariants as Family
 use Rattle.instructions.specs.declared.Multiplier.TheVariants.{Apac}
 use Rattle.instructions.specs.declared.Decoded.TheVariants.{Built}
@@ -22,12 +22,12 @@ use Rattle.steps.specs.Pass.{effect_of, passed_machine, performed}
 use Rattle.steps.specs.World.{World}
 use Rattle.steps.specs.Table.{decoded_at, second_word}
 use Rattle.steps.specs.Step.{after_store, step_of, run_of, world_after}
-use Rattle.steps.specs.TableLaws.{step_world}
+use Rattle.steps.proofs.TableLaws.{step_world}
 use Rattle.laws.specs.Repeating.{word_ahead}
-use Rattle.laws.specs.OperandLaws.{operand_alike}
-use Rattle.laws.specs.Runs.{run_ended, RunsOn, runs_on, run_to}
+use Rattle.laws.proofs.OperandLaws.{operand_alike}
+use Rattle.laws.proofs.Runs.{run_ended, RunsOn, runs_on, run_to}
 use Rattle.frame_sums.specs.Frames.{Pair, Accumulation, from_zero, product_added, passed, stacked, Words}
-use Rattle.frame_sums.specs.FrameLaws.{passes_keep_ov, below_128, at_128}
+use Rattle.frame_sums.proofs.FrameLaws.{passes_keep_ov, below_128, at_128}
 use Rattle.stacking.specs.Stacking.{pairs_read, Stacks, last_world, words, StaysZero, AtApac, Holds, HoldsAt128}
 use Rattle.stacking.specs.Passing.{accumulation_of, followed_follows, apac_works}
 use Rattle.stacking.specs.Passes.{plus, plus_is, Began, began, Passed, all_passed}

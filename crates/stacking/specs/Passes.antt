@@ -7,7 +7,7 @@ use Rattle.std.proofs.Math.ListN.{get_or}
 use Rattle.alu.specs.Registers.{wrapped_sum}
 use Rattle.machine.specs.declared.Machine.{Machine}
 use Rattle.answers.specs.Numbers.{is_done}
-use Rattle.answers.specs.NumberLaws.{done_is}
+use Rattle.answers.proofs.NumberLaws.{done_is}
 use Rattle.instructions.specs.declared.Instruction.{Instruction}
 use Rattle.instructions.specs.declared.Decoded.TheVariants.{Built}
 use Rattle.pages.specs.declared.Operand.TheVariants.{At}
@@ -31,11 +31,11 @@ use Rattle.steps.specs.Pass.{words_read, effect_of, passed_machine, passed_write
 use Rattle.steps.specs.World.{World}
 use Rattle.steps.specs.Table.{decoded_at, second_word}
 use Rattle.steps.specs.Step.{after_store, step_of, run_of, world_after}
-use Rattle.steps.specs.TableLaws.{step_world}
+use Rattle.steps.proofs.TableLaws.{step_world}
 use Rattle.laws.specs.Repeating.{Repeats}
-use Rattle.laws.specs.RepeatingLaws.{repeat_begins}
-use Rattle.laws.specs.OperandLaws.{Alike, operand_alike}
-use Rattle.laws.specs.Runs.{runs_on}
+use Rattle.laws.proofs.RepeatingLaws.{repeat_begins}
+use Rattle.laws.proofs.OperandLaws.{Alike, operand_alike}
+use Rattle.laws.proofs.Runs.{runs_on}
 use Rattle.frame_sums.specs.Frames.{Pair, accumulated, passed, Every, Words}
 use Rattle.stacking.specs.Stacking.{pair_for, pair_at, pairs_read, Accumulates, by_mac, by_macd, Sized}
 use Rattle.stacking.specs.Passing.{accumulation_of, followed_follows, again, goes_past, mac_works, move_keeps}

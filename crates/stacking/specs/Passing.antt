@@ -18,7 +18,7 @@ use Rattle.board.specs.RegionFacts.{Lies}
 use Rattle.board.specs.RegionLaws.{region_lies, moves, program_b0}
 use Rattle.board.specs.Windows.{window_of, program_word}
 use Rattle.board.specs.WindowLaws.{rom_word, b0_word}
-use Rattle.laws.specs.OperandLaws.{Alike}
+use Rattle.laws.proofs.OperandLaws.{Alike}
 use Rattle.frame_sums.specs.Frames.{Accumulation, product_added, accumulated}
 
 -- ---- what follows a pass

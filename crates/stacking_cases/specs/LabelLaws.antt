@@ -6,7 +6,7 @@ use Rattle.alu.specs.Registers.{wrapped_sum}
 use Rattle.machine.specs.Reset.{reset_machine}
 use Rattle.answers.specs.declared.Answer.TheVariants.{Done}
 use Rattle.answers.specs.Numbers.{is_done}
-use Rattle.answers.specs.NumberLaws.{number_injective}
+use Rattle.answers.proofs.NumberLaws.{number_injective}
 use Rattle.instructions.specs.Encoding.{low_fits, modification_of, next_of, indirect_of, address_mode_of}
 use Rattle.instructions.specs.Decode.{decode_of}
 use Rattle.board.specs.Regions.{in_rom, in_program_b0}

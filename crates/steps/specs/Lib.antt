@@ -9,12 +9,3 @@ pub mod Table
 pub mod Step
 pub mod Tally
 pub mod Summary
--- proofs
-pub mod RowLaws
-pub mod RefusalLaws
-pub mod TableLaws
-pub mod StoreLaws
-pub mod Stages
-pub mod StepLaws
-pub mod TallyLaws
-pub mod SummaryLaws

@@ -2,7 +2,6 @@
 use Rattle.std.specs.Prelude.{List, ℕ}
 use Rattle.machine.specs.declared.Machine.{Machine}
 use Rattle.pages.specs.declared.Access.{Access}
-use Rattle.pages.specs.declared.Access.TheVariants as Access
 use Rattle.pages.specs.declared.Traits.{Traits}
 use Rattle.pages.specs.Addressing.{address_of}
 use Rattle.board.specs.declared.Region.{Region}

@@ -4,9 +4,7 @@ use Rattle.machine.specs.declared.Machine.{Machine}
 use Rattle.answers.specs.declared.Answer.{Answer}
 use Rattle.answers.specs.declared.Answer.TheVariants.{ProgramAbsent, WrongPort, DataAbsent, OutputFull, InputDry}
 use Rattle.pages.specs.declared.Access.{Access}
-use Rattle.pages.specs.declared.Access.TheVariants as Access
 use Rattle.pages.specs.declared.Port.{Port}
-use Rattle.pages.specs.declared.Port.TheVariants as Port
 use Rattle.pages.specs.declared.Traits.{Traits}
 use Rattle.pages.specs.MultiplierPages.{table_address}
 use Rattle.board.specs.declared.Region.{Region}

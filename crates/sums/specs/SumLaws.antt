@@ -8,7 +8,7 @@ use borrow.Author.Tests.{lt-ltb, le-ltb, le-leb, lt-leb, leb-true, leb-false, lt
 use Rattle.alu.specs.Whole.{up, dn, part, sub_is, add_is, minus_is, eq_from}
 use Rattle.alu.specs.Word.{signed, low}
 use Rattle.alu.specs.WordLaws.{signed_is, low_is}
-use Rattle.alu.specs.Sums.{holds, held, settled, carry, no_borrow, added, subtracted}
+use Rattle.alu.specs.Sums.{holds, held, settled, carry, no_borrow, added}
 use Rattle.alu.specs.declared.Sum.{Sum}
 
 pub holds_in : (s : ℤ) → up s < 2 ^ 31 → dn s ≤ 2 ^ 31 → holds s ≡ true
@@ -105,8 +105,3 @@ no_borrow_lem acc x h k = go (leb x acc) refl
 pub add_settled : (acc x ov ovm : ℕ) → settled (net (acc + x) (acc / 2 ^ 31 + x / 2 ^ 31)) ov ovm ((acc + x) / 2 ^ 32) ≡ added acc x ov ovm
 unfolding added carry
 add_settled acc x ov ovm = rw (add_net acc x)
-
-pub subtract_settled : (acc x ov ovm : ℕ) → acc < 2 ^ 32 → x < 2 ^ 32
-    → settled (net (acc + (2 ^ 32 - x)) (acc / 2 ^ 31 + (1 - x / 2 ^ 31))) ov ovm ((acc + (2 ^ 32 - x)) / 2 ^ 32) ≡ subtracted acc x ov ovm
-unfolding subtracted no_borrow
-subtract_settled acc x ov ovm h k = rw (subtract_net acc x k, no_borrow_lem acc x h k)

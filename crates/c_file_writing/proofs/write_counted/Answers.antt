@@ -1,6 +1,6 @@
 -- Not routine: answer 0 means that the three counts are within a file's limits, so that file_bytes may be asked; its sum is the file's length.
 use Rattle.c_file_writing.specs.CallLaws.{none_written, counts_written, bytes_written}
-use Rattle.answers.specs.NumberLaws.{told}
+use Rattle.answers.proofs.NumberLaws.{told}
 use borrow.Author.Tests.{not-true, not-false}
 use mathlib.Core.Path.{ap, ◌∙◌}
 use Rattle.answers.specs.Numbers.{number_of}

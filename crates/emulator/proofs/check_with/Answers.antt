@@ -1,7 +1,7 @@
 use mathlib.Core.Path.{sym, ◌∙◌}
 use borrow.Author.Tests.{not-true, not-false}
-use Rattle.answers.specs.NumberLaws.{told}
-use Rattle.steps.specs.SummaryLaws.{refused_checks, unfit_checks, done_checks}
+use Rattle.answers.proofs.NumberLaws.{told}
+use Rattle.steps.proofs.SummaryLaws.{refused_checks, unfit_checks, done_checks}
 use Rattle.std.proofs.Common.{ap}
 use mathlib.Core.Bool.{not}
 use Rattle.emulator.proofs.check_with.Goals as goal

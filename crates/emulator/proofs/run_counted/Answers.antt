@@ -2,7 +2,7 @@
 use mathlib.Core.Path.{sym, ◌∙◌}
 use native.Mathlib.Omega.{arith}
 use borrow.Author.Tests.{not-true, not-false}
-use Rattle.answers.specs.NumberLaws.{done_is, told}
+use Rattle.answers.proofs.NumberLaws.{done_is, told}
 use Rattle.emulator.specs.Outcomes.{stepped}
 use Rattle.emulator.specs.RunLaws.{refused_run, refused_counts, refused_stores, words_fit, going_begins, going_checks, counted_fits, kept_begins, kept_on, kept_stops, kept_ends}
 use Rattle.std.proofs.Common.{ap}

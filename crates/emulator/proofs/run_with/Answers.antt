@@ -1,7 +1,7 @@
 use mathlib.Core.Path.{sym, ◌∙◌}
 use borrow.Author.Tests.{not-true, not-false}
-use Rattle.answers.specs.NumberLaws.{told}
-use Rattle.steps.specs.SummaryLaws.{refused_run, refused_outside, refused_summary, begun_run, begun_outside, begun_summary}
+use Rattle.answers.proofs.NumberLaws.{told}
+use Rattle.steps.proofs.SummaryLaws.{refused_run, refused_outside, refused_summary, begun_run, begun_outside, begun_summary}
 use Rattle.std.proofs.Common.{ap}
 use mathlib.Core.Bool.{not}
 use Rattle.emulator.proofs.run_with.Goals as goal

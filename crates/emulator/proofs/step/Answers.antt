@@ -1,7 +1,7 @@
 -- Not routine: a run with budget 1 ends with checks 1 and 2 of the world after the step, and those hold, so that its answer is the step's.
 use mathlib.Core.Path.{ap, ◌∙◌}
-use Rattle.answers.specs.NumberLaws.{done_is}
-use Rattle.steps.specs.TallyLaws.{one_counted}
+use Rattle.answers.proofs.NumberLaws.{done_is}
+use Rattle.steps.proofs.TallyLaws.{one_counted}
 use Rattle.emulator.specs.RunLaws.{words_fit, going_begins, outcome_of, one_step}
 use Rattle.emulator.proofs.step.Goals as goal
 

@@ -1,7 +1,7 @@
 -- Not routine: the definition is one table; for an instruction that is built the rows of 3 and 4 do not hold, and what is left is the instruction's own plan.
 use Rattle.steps.specs.Pass.{plan_by}
 use Rattle.steps.specs.Table.{encoding_rows}
-use Rattle.steps.specs.Stages.{decoded_plan, instruction_stages}
+use Rattle.steps.proofs.Stages.{decoded_plan, instruction_stages}
 use Rattle.fetching.proofs.plan_decoded.Goals as goal
 
 pub returns-in-Built : goal.returns-in-Built

@@ -1,4 +1,4 @@
-use Rattle.steps.specs.Stages.{instruction_plan}
+use Rattle.steps.proofs.Stages.{instruction_plan}
 use Rattle.steps.specs.Pass.{plan_by}
 use Rattle.steps.specs.Table.{repeat_rows, not_repeatable, second_absent, second_word, second_address}
 use Rattle.fetching.proofs.plan_instruction.Goals as goal

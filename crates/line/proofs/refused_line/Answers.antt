@@ -1,4 +1,4 @@
-use Rattle.line.specs.LineLaws.{refused_put}
+use Rattle.line.proofs.LineLaws.{refused_put}
 use Rattle.line.proofs.refused_line.Goals as goal
 
 pub returns : goal.returns

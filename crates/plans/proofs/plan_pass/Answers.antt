@@ -1,6 +1,6 @@
 -- Not routine: no row of the table has Done as its answer, so that the first answer is Done just where no row holds.
 use Rattle.steps.specs.OperandFound.{found_for}
-use Rattle.steps.specs.RefusalLaws.{pass_plan_lem}
+use Rattle.steps.proofs.RefusalLaws.{pass_plan_lem}
 use Rattle.plans.proofs.plan_pass.Goals as goal
 
 pub perform-requires : goal.perform-requires

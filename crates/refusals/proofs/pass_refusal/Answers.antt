@@ -1,6 +1,6 @@
 -- Not routine: no row of the table has Done as its answer, so that the first answer is Done just where no row holds.
 use Rattle.steps.specs.Refusals.{access_rows}
-use Rattle.steps.specs.RefusalLaws.{pass_first}
+use Rattle.steps.proofs.RefusalLaws.{pass_first}
 use Rattle.refusals.proofs.pass_refusal.Goals as goal
 
 pub returns-then-is_done : goal.returns-then-is_done

@@ -1,6 +1,6 @@
 -- Not routine: the two ports are asked at once, since an instruction uses one of them (rest-first).
 use Rattle.steps.specs.Refusals.{input_dry, table_absent, output_full}
-use Rattle.steps.specs.RefusalLaws.{rest_first}
+use Rattle.steps.proofs.RefusalLaws.{rest_first}
 use Rattle.refusals.proofs.rest_refusal.Goals as goal
 
 pub returns-then-spent-is_input : goal.returns-then-spent-is_input

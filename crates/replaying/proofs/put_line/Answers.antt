@@ -1,6 +1,6 @@
 -- Not routine: a file of bytes has no line longer than `longest_line`, which the lent bytes hold, so that the line stands whole.
 use Rattle.replaying.specs.ReplayLaws.{placed_as, placed_whole, refused_replay}
-use Rattle.answers.specs.NumberLaws.{told}
+use Rattle.answers.proofs.NumberLaws.{told}
 use native.Mathlib.Omega.{arith}
 use Rattle.replaying.proofs.put_line.Goals as goal
 

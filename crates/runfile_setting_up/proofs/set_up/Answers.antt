@@ -1,5 +1,5 @@
 -- Not routine: Done as the answer means that the file is accepted and the slices fit it, which is all that loading asks.
-use Rattle.answers.specs.NumberLaws.{told}
+use Rattle.answers.proofs.NumberLaws.{told}
 use Rattle.runfile_setting_up.specs.SetUpLaws.{set_up_done, set_up_kept, set_up_stored}
 use Rattle.runfile_setting_up.specs.SetUp.{lent}
 use borrow.Author.Tests.{not-true, not-false}

@@ -1,4 +1,4 @@
-use Rattle.answers.specs.NumberLaws.{told}
+use Rattle.answers.proofs.NumberLaws.{told}
 use mathlib.Core.Path.{ap, ◌∙◌}
 use Rattle.runfile_setting_up.specs.SetUpAnswer.{set_up_answer, lent_fit}
 use Rattle.runfile.specs.Files.{head_of}

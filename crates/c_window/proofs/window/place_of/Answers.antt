@@ -1,6 +1,6 @@
 -- Not routine: an address that is present and not in ROM is in B0, from FF00h on, so that the subtraction cannot go below 0.
 use Rattle.c_window.specs.CallLaws.{no_place, past_rom, rom_place, data_place}
-use Rattle.answers.specs.NumberLaws.{told}
+use Rattle.answers.proofs.NumberLaws.{told}
 use borrow.Author.Tests.{not-true, not-false}
 use mathlib.Core.Path.{sym, ◌∙◌}
 use Rattle.std.proofs.Common.{ap}

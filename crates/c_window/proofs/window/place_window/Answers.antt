@@ -1,5 +1,5 @@
 use Rattle.c_window.specs.CallLaws.{window_refused, window_made}
-use Rattle.answers.specs.NumberLaws.{told}
+use Rattle.answers.proofs.NumberLaws.{told}
 use borrow.Author.Tests.{not-true, not-false}
 use Rattle.std.proofs.Common.{ap}
 use mathlib.Core.Bool.{not}

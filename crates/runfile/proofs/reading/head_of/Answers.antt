@@ -1,6 +1,6 @@
 -- Not routine: each section is read with as many words as its count in the head says, so that the eight numbers alone give the lengths.
 use Rattle.runfile.specs.FileLaws.{head_read, head_refused}
-use Rattle.answers.specs.NumberLaws.{told}
+use Rattle.answers.proofs.NumberLaws.{told}
 use mathlib.Core.Path.{sym}
 use Rattle.runfile.proofs.reading.head_of.Goals as goal
 

@@ -1,0 +1,3 @@
+-- proofs
+pub mod DivisionLaws
+pub mod RepeatLaws

@@ -1,0 +1,6 @@
+-- proofs
+pub mod FieldLaws
+pub mod RetiredLaws
+pub mod EightLaws
+pub mod Steps
+pub mod Runs

@@ -1,0 +1,2 @@
+-- proofs
+pub mod LongestLaws
