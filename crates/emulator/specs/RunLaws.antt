@@ -33,7 +33,7 @@ use Rattle.steps.proofs.SummaryLaws.{plan_sized, refused_adds}
 use Rattle.emulator.specs.Totals.{in_one, apart_from}
 use Rattle.steps.proofs.RowLaws.{Refusals, all_refuse, none_from, row_not, plan_done, plan_by_first}
 use Rattle.ranges.specs.Ranges.{WordsFit, WorldInRange}
-use Rattle.ranges.specs.Operands.{program_word_lt}
+use Rattle.ranges.proofs.Operands.{program_word_lt}
 use Rattle.ranges.proofs.Steps.{step_in_range}
 use Rattle.ranges.proofs.Runs.{checks_done}
 use borrow.Author.Tests.{not-false}

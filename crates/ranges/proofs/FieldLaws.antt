@@ -12,7 +12,6 @@ use Rattle.instructions.specs.Decode.{decode_of}
 use Rattle.encodings.specs.Rows.{is_operand, is_branch_page}
 use Rattle.encodings.proofs.Back.{fields_within, head_or, rest}
 use Rattle.pages.specs.declared.Operand.{Operand}
-use Rattle.pages.specs.declared.Operand.TheVariants as Operand
 use Rattle.pages.specs.Traits.{traits_of, accumulator_traits, multiplier_traits, auxiliary_traits, branches_traits, transfers_traits, modes_traits}
 use Rattle.machine.specs.declared.Machine.{Machine}
 use Rattle.board.specs.Windows.{program_word}

@@ -4,3 +4,4 @@ pub mod RetiredLaws
 pub mod EightLaws
 pub mod Steps
 pub mod Runs
+pub mod Operands

@@ -2,19 +2,18 @@
 use Rattle.std.specs.Prelude.{◌≡◌, refl, Bool, true, false, cond, List, [], ◌∷◌, ◌++◌, length, ltb}
 use Rattle.std.proofs.Common.{sym, ◌∙◌, le-leb, eq-eqb, ltb-true}
 use Rattle.std.proofs.lemmas.Bool.{false≢true}
-use Prim.Native.Nat.{ℕ, zero, suc, ◌-◌, ◌<◌}
+use Prim.Native.Nat.{ℕ, zero, suc, ◌<◌}
 use native.Mathlib.Omega.{arith}
 use Rattle.machine.specs.declared.Machine.{Machine}
 use Rattle.machine.specs.Reset.{reset_machine}
 use Rattle.machine.specs.Range.{in_range}
-use Rattle.machine.specs.RangeLaws.{in_range_lem, reset_in_range}
+use Rattle.machine.specs.RangeLaws.{reset_in_range}
 use Rattle.answers.specs.declared.Answer.{Answer}
 use Rattle.answers.specs.declared.Answer.TheVariants.{Done}
 use Rattle.answers.specs.Numbers.{number_of}
 use Rattle.instructions.specs.declared.Decoded.{Decoded}
 use Rattle.instructions.specs.declared.Decoded.TheVariants.{Built, Unbuilt, Nothing}
 use Rattle.board.specs.Slices.{memories_fit, port_fits, slices_fit}
-use Rattle.board.specs.SliceLaws.{slices_fit_lem}
 use Rattle.board.specs.Given.{Given}
 use Rattle.steps.specs.Rows.{Row, first_given}
 use Rattle.steps.specs.World.{World, RunOutcome}

@@ -24,7 +24,6 @@ use Rattle.board.specs.Slices.{memories_fit, port_fits, slices_fit}
 use Rattle.board.specs.SliceLaws.{slices_fit_lem, port_left}
 use Rattle.board.specs.Given.{Given}
 use Rattle.steps.specs.declared.Write.{Write}
-use Rattle.steps.specs.declared.Write.TheVariants as Write
 use Rattle.steps.specs.Rows.{Row, NoneHolds}
 use Rattle.steps.specs.OperandFound.{found_for}
 use Rattle.steps.specs.Refusals.{takes, sends, input_dry, output_full, pass_rows, access_rows, rest_rows}
@@ -43,7 +42,7 @@ use Rattle.ranges.proofs.FieldLaws.{fields_at}
 use Rattle.ranges.specs.Cells.{Fits, words_set, set_cell, cell_fits}
 use Rattle.ranges.specs.Widths.{sum_lt}
 use Rattle.ranges.specs.Rules.{StoreFits, JumpFits, EffectFits, rule_keeps}
-use Rattle.ranges.specs.Operands.{addressed_keeps, addressed_cursors, second_lt, words_read_lem, program_word_lt}
+use Rattle.ranges.proofs.Operands.{addressed_keeps, addressed_cursors, second_lt, words_read_lem, program_word_lt}
 
 -- ---- the world's cells, and back
 

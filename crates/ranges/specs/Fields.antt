@@ -11,7 +11,6 @@ use Rattle.instructions.specs.declared.Decoded.TheVariants.{Built, Unbuilt, Noth
 use Rattle.encodings.specs.Encode.{fields_of}
 use Rattle.encodings.specs.Within.{FieldsWithin}
 use Rattle.pages.specs.declared.Operand.{Operand}
-use Rattle.pages.specs.declared.Operand.TheVariants as Operand
 use Rattle.pages.specs.Traits.{traits_of}
 
 -- the next ARP is a register's number

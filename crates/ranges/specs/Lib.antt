@@ -6,4 +6,3 @@ pub mod Retired
 pub mod Cells
 pub mod Widths
 pub mod Rules
-pub mod Operands

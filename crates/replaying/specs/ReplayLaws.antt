@@ -121,17 +121,10 @@ module _ (bytes : List ℕ) (k : ℕ) (h : 16401 ≤ k) where
   unfolding numbers_of
   cut_version = rw (get_or-take k bytes 0 0 (omega arith), get_or-take k bytes 1 0 (omega arith))
 
-  cut_long : k < length bytes → replay_line (take k bytes) ≡ replay_line bytes
+  pub cut_long : k < length bytes → replay_line (take k bytes) ≡ replay_line bytes
   cut_long longer =
       let whole = too_long bytes (omega arith) in
       let part = too_long (take k bytes) (omega (arith, length-take-le k bytes (omega arith))) in
       let same : read_answer (take k bytes) ≡ read_answer bytes = part ∙ rw cut_version (sym whole) in
       let refused : is_done (read_answer bytes) ≡ false = rw whole (refused_version (eqb (numbers_of bytes).version 1)) in
       sym (refused_replay (take k bytes) (rw same refused)) ∙ rw same (refused_replay bytes refused)
-
-  pub cut_replay : replay_line (take k bytes) ≡ replay_line bytes
-  cut_replay = by (ltb k (length bytes)) refl
-    where
-      by : (t : Bool) → ltb k (length bytes) ≡ t → replay_line (take k bytes) ≡ replay_line bytes
-      by true e = cut_long (ltb-true _ _ e)
-      by false e = ap replay_line (take_all k bytes (ltb-false _ _ e))

@@ -10,7 +10,6 @@ use Rattle.operands.specs.declared.NextArp.TheVariants.{Same, To}
 use Rattle.operands.specs.declared.Address.TheVariants as Mode
 use Rattle.instructions.specs.declared.Instruction.{Instruction}
 use Rattle.pages.specs.declared.Access.{Access}
-use Rattle.pages.specs.declared.Access.TheVariants as Access
 use Rattle.pages.specs.declared.Operand.{Operand}
 use Rattle.pages.specs.declared.Operand.TheVariants.{Nothing, At}
 use Rattle.pages.specs.declared.Traits.{Traits}
