@@ -10,23 +10,22 @@
 # The names of a text, each between two spaces: without comments, strings, brackets and what only the writing needs.
 function names(text) {
     gsub(/"[^"]*"/, " ", text)
-    gsub(/«|»|⌜|⌝/, "", text)
-    gsub(/[][(){},;:&<>'=|*!]/, " ", text)
+    gsub(/«|»/, "", text)
+    gsub(/[][(){},;:&<>=|*!]/, " ", text)
     gsub(/\. /, " ", text)
     return text
 }
 
 # An operator is used without the places of its operands.
 function as_written(name) {
-    gsub(/^_|_$/, "", name)
+    gsub(/^(_|◌)|(_|◌)$/, "", name)
     return name
 }
 
-# The crate of a module's name as `use` has it: Rattle·CRATE or Rattle·CRATE·specs.
-function crate_of(module) {
-    sub(/^Rattle·/, "", module)
-    sub(/[.·].*/, "", module)
-    return module
+# The crate of a module's name as `use` has it: Rattle.CRATE.specs.FILE or Rattle.CRATE.proofs.FILE.
+function crate_of(module, parts) {
+    split(module, parts, ".")
+    return parts[2]
 }
 
 # The crate of a file.
@@ -35,12 +34,12 @@ function crate_at(path, parts) {
     return parts[2]
 }
 
-# What a `use` line's module is: a file of specs/, a declared type, or a module of the kit.
+# What a `use` line's module is: a file of specs/ or proofs/, a declared type, or a module of the kit.
 function target(module, parts, n) {
     n = split(module, parts, ".")
-    if (module !~ /^Rattle·/) return "kit " module
-    if (module ~ /\.declared\./) return "type " crate_of(module) " " (parts[n] == "the-variants" ? parts[n - 1] : parts[n])
-    return "file crates/" crate_of(module) "/specs/" parts[n] ".antt"
+    if (parts[1] != "Rattle" || !(parts[2] in is_own)) return "kit " module
+    if (parts[4] == "declared") return "type " parts[2] " " (parts[n] == "TheVariants" ? parts[n - 1] : parts[n])
+    return "file crates/" parts[2] "/" parts[3] "/" parts[n] ".antt"
 }
 
 # Keeps a line `use MODULE.{NAME, NAME as OTHER}` or `use MODULE as NAME` of a file.
@@ -59,6 +58,14 @@ function import(file, line, module, list, parts, words, n, i) {
     } else if (split(line, words, " ") == 3 && words[2] == "as") alias[file, words[3]] = target(words[1])
 }
 
+# Keeps the types that a line `use CRATE::TYPE;` or `use CRATE::{TYPE, ..};` of Rattle brings in.
+function import_types(file, line, crate, from, parts, n, i) {
+    from = name_after("^use ", line)
+    sub(/^use .*::/, "", line)
+    n = split(line, parts, /[{}, ;]+/)
+    for (i = 1; i <= n; i++) if (parts[i] ~ /^[A-Z]/) imported[file, parts[i]] = "type " (from == "crate" ? crate : from) " " parts[i]
+}
+
 # The name that stands after a pattern.
 function name_after(pattern, text) {
     sub(pattern, "", text)
@@ -68,13 +75,15 @@ function name_after(pattern, text) {
 
 # ---- reading
 
+BEGIN { for (i = 1; i < ARGC; i++) if (split(ARGV[i], parts, "/") > 2) is_own[parts[2]] = 1 }
+
 FNR == 1 {
-    current = ""
-    comments = level = 0
+    current = rust_use = ""
+    comments = level = in_telescope = 0
     in_title = 1
 }
 
-# A declaration of specs/ begins. What stands in `module _ (..) where` around it belongs to its statement.
+# A declaration of specs/ or proofs/ begins. What stands in `module _ (..) where` around it belongs to its statement.
 function begin(file, name, kind, i) {
     current = "file " file " " name
     is_plain[current] = (kind == "")
@@ -98,7 +107,7 @@ function outer_line(text, kind, name) {
     name = as_written(name)
     if (name == "unfolding") return ""
     if (name == name_of[current]) in_statement = 0
-    else if (text ~ (kind ~ /record|data/ ? " : " : "^[^ ]+ : ")) begin(FILENAME, name, kind)
+    else if (text ~ (kind ~ /record|data/ ? " :( |$)" : "^[^ ]+ :( |$)")) begin(FILENAME, name, kind)
     return text
 }
 
@@ -112,9 +121,10 @@ FILENAME ~ /\.antt$/ {
     sub(/ -- .*/, "", text)
     match(text, /^ */)
     indent = RLENGTH
-    while (indent < 2 * level) level--
+    if (!in_telescope) while (indent < 2 * level) level--
     if (text ~ /^((unfoldable )?pub )?use /) { sub(/^.*use /, "", text); import(FILENAME, text); comments = 0; next }
-    if (text ~ /^ *module /) { telescope[level++] = text; comments = 0; next }
+    if (text ~ /^ *module /) { telescope[level++] = text; in_telescope = (text !~ / where$/); comments = 0; next }
+    if (in_telescope) { telescope[level - 1] = telescope[level - 1] " " text; in_telescope = (text !~ /(^| )where$/); next }
     if (indent == 2 * level) { text = outer_line(substr(text, indent + 1)); comments = 0 }
     if (current == "") next
     if (in_statement) statement[current] = statement[current] " " text
@@ -128,10 +138,9 @@ FILENAME ~ /\.rt$/ {
     text = $0
     crate = crate_at(FILENAME)
     if (text ~ /^ghost use /) { sub(/^ghost use /, "", text); import(FILENAME, text); next }
-    if (text ~ /^use .*::[A-Z][A-Za-z0-9]*;/) {
-        from = name_after("^use ", text)
-        name = name_after("^use .*::", text)
-        imported[FILENAME, name] = "type " (from == "crate" ? crate : from) " " name
+    if (text ~ /^use / || rust_use != "") {
+        rust_use = rust_use text
+        if (text ~ /;/) { import_types(FILENAME, rust_use, crate); rust_use = "" }
         next
     }
     if (text ~ /^ *\/\//) { comments++; next }
@@ -153,6 +162,10 @@ FILENAME ~ /\.rt$/ {
     }
     comments = 0
     if (current == "") next
+    # the name of a function, of a parameter or a field, and of a clause stand for nothing else
+    sub(/ fn [A-Za-z0-9_]+/, " ", text)
+    sub(/^ *(requires|ensures)( [a-z0-9_]+)? \{/, " {", text)
+    gsub(/[a-z0-9_]+: /, " ", text)
     statement[current] = statement[current] " " text
     lines[current]++
     # a type ends with its bracket, a contract where the body begins
@@ -211,14 +224,14 @@ function resolved(node, parts) {
     return node
 }
 
-# The node that a name means in a file.
+# The node that a name means in a file. In `x.field` it is that of `x`, but where `x` is a module that has another name here.
 function meant(file, name, from) {
-    if (("file " file " " name) in file_of) return "file " file " " name
-    if ((file, name) in imported) return resolved(imported[file, name])
-    if (file ~ /\.rt$/) return "type " crate_at(file) " " name
     from = name
     sub(/\..*/, "", from)
-    if ((file, from) in alias) return resolved(alias[file, from] " " substr(name, length(from) + 2))
+    if (from != name && (file, from) in alias) return resolved(alias[file, from] " " substr(name, length(from) + 2))
+    if (("file " file " " from) in file_of) return "file " file " " from
+    if ((file, from) in imported) return resolved(imported[file, from])
+    if (file ~ /\.rt$/) return "type " crate_at(file) " " from
     return ""
 }
 
@@ -229,9 +242,8 @@ function follow(what, parts, n, i) {
 
 # A function's name stands for its contract. A name that several files have is that of the crates named beside it, if one of them is.
 function root(name, text, function_only, parts, n, i, is_beside) {
-    if (name in contracts) n = split(substr(contracts[name], 2), parts, "\n")
-    else if (name in by_name && !function_only) n = split(substr(by_name[name], 2), parts, "\n")
-    else { print "docs/CLAIMS.md names `" name "`, which no crate has" >"/dev/stderr"; failed = 1 }
+    n = split(substr(contracts[name] (function_only ? "" : by_name[name]), 2), parts, "\n")
+    if (!n) { print "docs/CLAIMS.md names `" name "`, which no crate has" >"/dev/stderr"; failed = 1 }
     for (i = 1; i <= n; i++) if (is_named_in(parts[i], text)) is_beside = 1
     for (i = 1; i <= n; i++) {
         if (is_beside && !is_named_in(parts[i], text)) continue
