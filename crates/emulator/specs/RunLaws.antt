@@ -89,7 +89,7 @@ module _ (g : Given) where
   unfolding tallied
   refused_stores budget w s e = rw (no_plans g budget w e) refl
 
-  in_range_checks : (w : World) → WorldInRange g w → checks_in w ≡ Done
+  pub in_range_checks : (w : World) → WorldInRange g w → checks_in w ≡ Done
   in_range_checks w k = checks_done g w.«data» (length w.output) w.m k.in_range k.slices_fit
 
   -- what the loop of a run keeps besides: the world is in range
@@ -101,14 +101,14 @@ module _ (g : Given) where
     pub going_checks : checks_in w ≡ Done
     going_checks = in_range_checks w going.in_range
 
-    going_on : (out : Outcome) → out ≡ step_of g w → k < budget → is_done out.answer ≡ true
+    pub going_on : (out : Outcome) → out ≡ step_of g w → k < budget → is_done out.answer ≡ true
         → length out.world.«data» ≡ length w.«data» → length out.world.output ≡ length w.output → Going budget w₀ out.world (k + 1)
     going_on out e l h dl ol = record {
       running = running_goes g budget w₀ w k going.running out e l h dl ol;
       in_range = rw e (step_in_range g w going.in_range);
     }
 
-    going_ends : budget ≤ k → record { world = w; steps = k; answer = Done } ≡ run_of g budget w₀
+    pub going_ends : budget ≤ k → record { world = w; steps = k; answer = Done } ≡ run_of g budget w₀
     going_ends l = rw (← going_checks) (running_ends g budget w₀ w k going.running l)
 
 -- ---- the totals of a run
@@ -121,7 +121,7 @@ pub record Totalling (g : Given) (budget : ℕ) (w₀ w : World) (k totals : ℕ
   pub writes_within : so_far.writes ≤ k
   pub tallying : Tallying add_outside g budget w₀ none_outside w k so_far
 
-apart_again : (o : Outside) → o.reads < 65536 → apart_from (in_one o) ≡ o
+pub apart_again : (o : Outside) → o.reads < 65536 → apart_from (in_one o) ≡ o
 unfolding apart_from in_one
 apart_again o l =
     let reads : (o.reads + 65536 * o.writes) % 65536 ≡ o.reads = omega arith in
@@ -129,12 +129,12 @@ apart_again o l =
     rw (reads, writes)
 
 module _ (g : Given) (budget : ℕ) (w₀ : World) where
-  totalling_begins : Totalling g budget w₀ w₀ 0 0
+  pub totalling_begins : Totalling g budget w₀ w₀ 0 0
   unfolding in_one
   totalling_begins = record { so_far = none_outside; in_one = refl; reads_within = omega arith; writes_within = omega arith; tallying = tallying_begins add_outside g budget w₀ none_outside }
 
   module _ (w : World) (k totals : ℕ) (c : Totalling g budget w₀ w k totals) where
-    totalling_goes : (out : Outcome) → out ≡ step_of g w → k < budget → is_done out.answer ≡ true → (x : Outside) → x ≡ (plan_in g w).outside
+    pub totalling_goes : (out : Outcome) → out ≡ step_of g w → k < budget → is_done out.answer ≡ true → (x : Outside) → x ≡ (plan_in g w).outside
         → Totalling g budget w₀ out.world (k + 1) (totals + in_one x)
     unfolding in_one add_outside
     totalling_goes out e l h x f =
@@ -155,11 +155,11 @@ module _ (g : Given) (budget : ℕ) (w₀ : World) where
     totals_are : k < 65536 → c.so_far ≡ outside_of g budget w₀ → apart_from totals ≡ outside_of g budget w₀
     totals_are l e = ap apart_from c.in_one ∙ (apart_again c.so_far (omega (arith, c.reads_within)) ∙ e)
 
-    totalling_stops : budget < 65536 → (out : Outcome) → out ≡ step_of g w → k < budget → is_done out.answer ≡ false → apart_from totals ≡ outside_of g budget w₀
+    pub totalling_stops : budget < 65536 → (out : Outcome) → out ≡ step_of g w → k < budget → is_done out.answer ≡ false → apart_from totals ≡ outside_of g budget w₀
     unfolding outside_of
     totalling_stops b out e l h = totals_are (omega arith) (tallying_stops add_outside g budget w₀ none_outside w k c.so_far c.tallying out e l h)
 
-    totalling_ends : k < 65536 → budget ≤ k → apart_from totals ≡ outside_of g budget w₀
+    pub totalling_ends : k < 65536 → budget ≤ k → apart_from totals ≡ outside_of g budget w₀
     unfolding outside_of
     totalling_ends b l = totals_are b (tallying_ends add_outside g budget w₀ none_outside w k c.so_far c.tallying l)
 

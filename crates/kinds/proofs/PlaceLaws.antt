@@ -1,14 +1,10 @@
 -- The place of a word's page by kinds, and what the word means: over the agreement in Kinds.antt of specs/.
-use Rattle.std.specs.Prelude.{◌≡◌, refl, Bool, true, false, List, [], ◌∷◌, ℕ, ◌/◌, ◌%◌, ◌<◌, T, eqb, ltb, get_or}
-use Rattle.std.proofs.Common.{ap, sym, ◌∙◌, zero-add, arith, eqb→eq}
-use Prim.Native.String.{String}
-use lib.Text.{eqt, eqt→eq}
-use Rattle.instructions.specs.Every.{both_left, both_right, all, all_at}
-use Rattle.instructions.specs.Encoding.{pick, both, between, find, low_fits}
+use Rattle.std.specs.Prelude.{◌≡◌, ℕ, ◌/◌, ◌%◌, ◌<◌}
+use Rattle.std.proofs.Common.{ap, sym, ◌∙◌, zero-add, arith}
 use Rattle.instructions.specs.Pages.{pages}
 use Rattle.instructions.specs.Decode.{decode_of}
-use Rattle.instructions.specs.Places.{place_in, meaning_at, upper_in, lower_in, by_bytes, pages_of, decode_at_place}
-use Rattle.kinds.specs.Sieve.{at_uppers, upper_at}
+use Rattle.instructions.specs.Places.{place_in, meaning_at, upper_in, by_bytes, pages_of, decode_at_place}
+use Rattle.kinds.specs.Sieve.{upper_at}
 use Rattle.kinds.specs.Kinds.{kind_of, place_of_kind, agree_at, agreed, agree_lower}
 
 -- the place of a word's page, from the kind of its upper byte and its low byte

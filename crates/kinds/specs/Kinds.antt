@@ -1,13 +1,11 @@
 -- The kinds that a table of upper bytes holds, and the place of a word's page from its kind and its low byte.
-use Rattle.std.specs.Prelude.{◌≡◌, refl, Bool, true, false, List, [], ◌∷◌, ℕ, ◌/◌, ◌%◌, ◌<◌, T, eqb, ltb, get_or}
-use Rattle.std.proofs.Common.{ap, sym, ◌∙◌, zero-add, arith, eqb→eq}
+use Rattle.std.specs.Prelude.{◌≡◌, refl, Bool, true, false, List, [], ◌∷◌, ℕ, ◌<◌, T, eqb, ltb, get_or}
+use Rattle.std.proofs.Common.{◌∙◌, arith, eqb→eq}
 use Prim.Native.String.{String}
 use lib.Text.{eqt, eqt→eq}
 use Rattle.instructions.specs.Every.{both_left, both_right, all, all_at}
 use Rattle.instructions.specs.Encoding.{pick, both, between, find, low_fits}
-use Rattle.instructions.specs.Pages.{pages}
-use Rattle.instructions.specs.Decode.{decode_of}
-use Rattle.instructions.specs.Places.{place_in, meaning_at, upper_in, lower_in, by_bytes, pages_of, decode_at_place}
+use Rattle.instructions.specs.Places.{lower_in, pages_of}
 use Rattle.kinds.specs.Sieve.{at_uppers, upper_at}
 
 -- the first place of a list, or 133
