@@ -1,5 +1,5 @@
-# Reads docs/CLAIMS.md and the sources (src/, specs/ and the files of proofs/ itself), and prints the table of all definitions that the contracts of exported functions and the theorems named there
-# rest on.
+# Reads docs/CLAIMS.md and the sources (src/, specs/ and the files of proofs/ itself), and prints the table of all definitions that the contracts of
+# exported functions and the theorems named there rest on.
 #
 # A theorem is named in backquotes, in a column "theorem" or before a "(crates/..)" in the text; what a column "function" names must be there, too. A
 # contract or a law needs what its statement names, a definition what its body names besides, a declared type what its fields name. What is needed is
