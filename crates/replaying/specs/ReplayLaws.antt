@@ -1,9 +1,9 @@
 -- Laws of what `replay` prints: what is set up and run gives the definition's line, and a longer file can be cut.
 use Rattle.std.specs.Prelude.{◌≡◌, refl, Bool, true, false, cond, List, ◌++◌, ℕ, ◌≤◌, ◌<◌, ltb, eqb, length, take, drop, get_or, replicate}
-use Rattle.std.proofs.Common.{sym, ◌∙◌, arith, length-append, take_all, length-take-le}
+use Rattle.std.proofs.Common.{sym, ◌∙◌, arith, length-append, length-take-le}
 use Rattle.std.proofs.Math.Path.{ap}
 use Rattle.std.proofs.Math.Seq.{get_or-take}
-use borrow.Author.Tests.{eq-eqb, le-ltb, ltb-true, ltb-false}
+use borrow.Author.Tests.{eq-eqb, le-ltb}
 use Rattle.machine.specs.declared.Machine.{Machine}
 use Rattle.machine.specs.Reset.{reset_machine}
 use Rattle.answers.specs.declared.Answer.TheVariants.{Done, FileShort, FileRules, FileVersion}
