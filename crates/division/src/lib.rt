@@ -1,2 +1,2 @@
-// Division by sixteen passes of SUBC, in specs/ alone: no function is needed here.
+// Division by sixteen passes of SUBC, in specs/ and proofs/ alone: no function is needed here.
 #![tactic(auto)]

@@ -1,2 +1,2 @@
-// The law of a stack of frames, in specs/ alone: no function is needed here.
+// The law of a stack of frames, in specs/ and proofs/ alone: no function is needed here.
 #![tactic(auto)]

@@ -1,2 +1,2 @@
-// Laws of steps and runs, in specs/ alone: no function is needed here.
+// Laws of steps and runs, in specs/ and proofs/ alone: no function is needed here.
 #![tactic(auto)]

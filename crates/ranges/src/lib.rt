@@ -1,2 +1,2 @@
-// What a step keeps in range, in specs/ alone: no function is needed here.
+// What a step keeps in range, in specs/ and proofs/ alone: no function is needed here.
 #![tactic(auto)]

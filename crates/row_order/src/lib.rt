@@ -1,2 +1,2 @@
-// The laws of the transform's row order, in specs/ alone: no function is needed here.
+// The laws of the transform's row order, in specs/ and proofs/ alone: no function is needed here.
 #![tactic(auto)]

@@ -109,9 +109,9 @@ page_few (Built i) g d m = let few = few_by _ _ in record { one_read = few.0; on
 page_few Unbuilt g d m = record { one_read = omega arith; one_write = omega arith }
 page_few Nothing g d m = record { one_read = omega arith; one_write = omega arith }
 
--- and one that is refused is the plan of a refusal, which counts and stores nothing
+-- and one that is refused counts nothing
 abbrev NoneIfRefused : Plan → Type 0
-NoneIfRefused p = is_done p.answer ≡ false → p ≡ refused p.m p.answer
+NoneIfRefused p = is_done p.answer ≡ false → p.outside ≡ none_outside
 
 page_none : (x : Decoded) (g : Given) (d : List ℕ) (m : Machine) → NoneIfRefused (page_plan x g d m)
 unfolding page_plan performed
@@ -119,16 +119,27 @@ page_none (Built i) g d m r = absurd (false≢true (sym r))
 page_none Unbuilt g d m r = refl
 page_none Nothing g d m r = refl
 
+-- nor does it store: it is the plan of a refusal
+abbrev RefusalIfRefused : Plan → Type 0
+RefusalIfRefused p = is_done p.answer ≡ false → p ≡ refused p.m p.answer
+
+page_refusal : (x : Decoded) (g : Given) (d : List ℕ) (m : Machine) → RefusalIfRefused (page_plan x g d m)
+unfolding page_plan performed
+page_refusal (Built i) g d m r = absurd (false≢true (sym r))
+page_refusal Unbuilt g d m r = refl
+page_refusal Nothing g d m r = refl
+
 module _ (g : Given) (w : World) where
   pub few_outside : FewOutside (plan_in g w)
   few_outside = step_has g w FewOutside (λ a. record { one_read = omega arith; one_write = omega arith }) (λ x. page_few x g w.«data» w.m)
 
   pub refused_plan : is_done (step_of g w).answer ≡ false → plan_in g w ≡ refused (plan_in g w).m (plan_in g w).answer
   unfolding step_of
-  refused_plan = step_has g w NoneIfRefused (λ a r. refl) (λ x. page_none x g w.«data» w.m)
+  refused_plan = step_has g w RefusalIfRefused (λ a r. refl) (λ x. page_refusal x g w.«data» w.m)
 
   pub refused_none : is_done (step_of g w).answer ≡ false → (plan_in g w).outside ≡ none_outside
-  refused_none r = ap (λ (p : Plan). p.outside) (refused_plan r)
+  unfolding step_of
+  refused_none = step_has g w NoneIfRefused (λ a r. refl) (λ x. page_none x g w.«data» w.m)
 
   -- a run of one step counts what that step does
   pub one_counted : outside_of g 1 w ≡ (plan_in g w).outside

@@ -7,7 +7,7 @@ ghost use Rattle.steps.specs.Summary.{summary_fits, summary_answer, reset_summar
 use answers::Answer;
 use steps::Write;
 
-// The numbers of a summary: CROWMITTEN_SUMMARY of the header.
+// The numbers of a summary.
 pub const SUMMARY: usize = 64;
 
 // The first of those with OV at 1.
