@@ -76,6 +76,7 @@ pub fn length_answer(cells: &[u32]) -> Answer
 }
 
 // What a slice of cells is answered by: 2 for its length, then 1.
+#[tactic(auto, unfolding(crate::specs::Checks::cells_answer))]
 pub fn cells_answer(cells: &[u32]) -> Answer
     ensures { result ≡ cells_answer cells.now }
 {
