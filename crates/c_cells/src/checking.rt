@@ -66,6 +66,7 @@ fn within_limits(cells: &[u32]) -> bool
 }
 
 // Whether a slice has as many cells as there are: 0 or 2.
+#[tactic(auto, unfolding(crate::specs::Checks::length_answer))]
 pub fn length_answer(cells: &[u32]) -> Answer
     ensures { result ≡ length_answer cells.now }
 {

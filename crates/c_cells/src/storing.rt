@@ -118,6 +118,7 @@ fn put_all(cells: &mut [u32], m: Machine)
 }
 
 // A machine's cells, into a slice of their number; another slice is left as it is.
+#[tactic(auto, unfolding(crate::specs::Checks::cells_after))]
 pub fn put_cells(cells: &mut [u32], m: Machine)
     ensures { cells.new ≡ cells_after cells.old m }
 {
