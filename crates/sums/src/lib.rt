@@ -73,6 +73,7 @@ pub fn in_high_half(w: u16) -> u32
 }
 
 // ADDH: its carry can only set C.
+#[tactic(auto, using(crate::specs::PageSumLaws::add_high_sets, crate::specs::PageSumLaws::add_high_keeps))]
 pub fn add_high(acc: u32, w: u16, ov: u8, ovm: u8, c: u8) -> Sum
     ensures { result ≡ added_high acc w ov ovm c }
 {
