@@ -1,9 +1,10 @@
 -- A promise about numbers is a promise about answers: no two answers share a number.
-use Rattle.std.specs.Prelude.{◌≡◌, refl, Bool, true, cond, false, not, List, [], ◌∷◌, ℕ, ◌<◌, eqb, ltb}
+use Rattle.std.specs.Prelude.{◌≡◌, refl, Ok, Err, Bool, true, cond, false, not, List, [], ◌∷◌, ℕ, ◌<◌, eqb, ltb}
 use Rattle.std.proofs.Common.{sym, ap, ◌∙◌, eqb-true, eq-eqb, ltb-true}
 use Rattle.std.proofs.lemmas.Bool.{false≢true}
-use Rattle.answers.specs.declared.Answer.{Answer}
-use Rattle.answers.specs.declared.Answer.TheVariants.{Done, CellOutOfRange, SlicesUnfit, NoEncoding, NotBuilt, ProgramAbsent, DataAbsent, NotRepeatable, WrongPort, OutputFull, InputDry, SummaryUnfit, FileShort, FileVersion, FileRules, FileNoRoom}
+use Rattle.answers.specs.Answers.{Answer}
+use Rattle.answers.specs.declared.Refusal.{Refusal}
+use Rattle.answers.specs.Answers.{Done, CellOutOfRange, SlicesUnfit, NoEncoding, NotBuilt, ProgramAbsent, DataAbsent, NotRepeatable, WrongPort, OutputFull, InputDry, SummaryUnfit, FileShort, FileVersion, FileRules, FileNoRoom}
 use Rattle.answers.specs.Numbers.{number_of, is_done}
 
 -- the first answer of a list that has the number n
@@ -37,22 +38,22 @@ answer_with n = first_of n answers
 
 back : (a : Answer) → answer_with (number_of a) ≡ a
 unfolding answer_with first_of answers
-back Done = refl
-back CellOutOfRange = refl
-back SlicesUnfit = refl
-back NoEncoding = refl
-back NotBuilt = refl
-back ProgramAbsent = refl
-back DataAbsent = refl
-back NotRepeatable = refl
-back WrongPort = refl
-back OutputFull = refl
-back InputDry = refl
-back SummaryUnfit = refl
-back FileShort = refl
-back FileVersion = refl
-back FileRules = refl
-back FileNoRoom = refl
+back (Ok tt) = refl
+back (Err Refusal.CellOutOfRange) = refl
+back (Err Refusal.SlicesUnfit) = refl
+back (Err Refusal.NoEncoding) = refl
+back (Err Refusal.NotBuilt) = refl
+back (Err Refusal.ProgramAbsent) = refl
+back (Err Refusal.DataAbsent) = refl
+back (Err Refusal.NotRepeatable) = refl
+back (Err Refusal.WrongPort) = refl
+back (Err Refusal.OutputFull) = refl
+back (Err Refusal.InputDry) = refl
+back (Err Refusal.SummaryUnfit) = refl
+back (Err Refusal.FileShort) = refl
+back (Err Refusal.FileVersion) = refl
+back (Err Refusal.FileRules) = refl
+back (Err Refusal.FileNoRoom) = refl
 
 pub number_injective : (a b : Answer) → number_of a ≡ number_of b → a ≡ b
 number_injective a b h = sym (back a) ∙ ap answer_with h ∙ back b
@@ -89,10 +90,11 @@ never_8 a h = false≢true (rw h at (each (λ (x : Answer). not (eqb (number_of 
 
 -- is_done a ≡ true exactly where the number is 0, and exactly where a is Done
 pub done_zero : (a : Answer) → is_done a ≡ true → number_of a ≡ 0
-done_zero a h = eqb-true _ _ h
+done_zero (Ok tt) h = refl
+done_zero (Err _) h = absurd (false≢true h)
 
 pub zero_done : (a : Answer) → number_of a ≡ 0 → is_done a ≡ true
-zero_done a h = eq-eqb _ _ h
+zero_done a h = ap is_done (number_injective a Done h)
 
 pub done_is : (a : Answer) → is_done a ≡ true → a ≡ Done
 done_is a h = number_injective a Done (done_zero a h)

@@ -10,8 +10,8 @@ use Rattle.std.proofs.Math.ListN.{length}
 use Rattle.std.proofs.Math.Seq.{slice, length-slice}
 use Rattle.machine.specs.declared.Machine.{Machine}
 use Rattle.machine.specs.Range.{in_range}
-use Rattle.answers.specs.declared.Answer.{Answer}
-use Rattle.answers.specs.declared.Answer.TheVariants.{Done, CellOutOfRange, SlicesUnfit, ProgramAbsent}
+use Rattle.answers.specs.Answers.{Answer}
+use Rattle.answers.specs.Answers.{Done, CellOutOfRange, SlicesUnfit, ProgramAbsent}
 use Rattle.answers.specs.Numbers.{is_done}
 use Rattle.board.specs.Regions.{in_rom, in_program_b0, program_present}
 use Rattle.board.specs.Slices.{memories_fit, port_fits}

@@ -6,7 +6,7 @@ ghost use Rattle.answers.specs.Numbers.{number_of, is_done};
 ghost use Rattle.machine.specs.Reset.{reset_machine};
 ghost use Rattle.c_cells.specs.Checks.{length_answer, cells_answer, cells_after};
 
-use answers::{Answer, is_done, number_of};
+use answers::{Answer, number};
 use c_cells::checking::{cells_answer, length_answer};
 use c_cells::storing::put_cells;
 use machine::Machine;
@@ -16,7 +16,7 @@ pub fn cells_pass(cells: &[u32]) -> bool
     ensures { result ≡ is_done (cells_answer cells.now) }
 {
     let checked = cells_answer(cells);
-    is_done(checked)
+    checked.is_ok()
 }
 
 // What cells that do not pass are answered by.
@@ -24,7 +24,7 @@ pub fn cells_number(cells: &[u32]) -> u32
     ensures { result ≡ number_of (cells_answer cells.now) }
 {
     let checked = cells_answer(cells);
-    number_of(checked)
+    u32::from(number(checked))
 }
 
 // The same of a run, which has done no step.
@@ -42,7 +42,7 @@ pub fn reset_cells(cells: &mut [u32]) -> u32
 {
     let counted = length_answer(cells);
     put_cells(cells, Machine::reset());
-    number_of(counted)
+    u32::from(number(counted))
 }
 
 // The machine after a step, and the step's answer.
@@ -51,7 +51,7 @@ pub fn put_step(cells: &mut [u32], m: Machine, answer: Answer) -> u32
     ensures stored { cells.new ≡ cells_after cells.old m }
 {
     put_cells(cells, m);
-    number_of(answer)
+    u32::from(number(answer))
 }
 
 // The machine after a run, the steps done, and the last answer.

@@ -9,7 +9,7 @@ use Rattle.machine.specs.Reset.{reset_machine}
 use Rattle.machine.specs.Range.{rows_in_range, in_range}
 use Rattle.machine.specs.Facts.{AllMost}
 use Rattle.machine.specs.RangeLaws.{rows_first, rows_more}
-use Rattle.answers.specs.declared.Answer.TheVariants.{Done, CellOutOfRange}
+use Rattle.answers.specs.Answers.{Done, CellOutOfRange}
 use Rattle.answers.specs.Numbers.{is_done}
 use Rattle.c_cells.specs.Cells.{joined, cells_of, machine_from, machine_of}
 use Rattle.c_cells.specs.Checks.{limits_of, limits, within_limits, cells_answer}

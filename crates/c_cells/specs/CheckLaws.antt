@@ -4,7 +4,7 @@ use Rattle.std.proofs.lemmas.Bool.{false≢true}
 use Rattle.std.proofs.Common.{eqb-true, eq-eqb}
 use Rattle.machine.specs.declared.Machine.{Machine}
 use Rattle.machine.specs.Table.{cell_count}
-use Rattle.answers.specs.declared.Answer.TheVariants.{Done, CellOutOfRange, SlicesUnfit}
+use Rattle.answers.specs.Answers.{Done, CellOutOfRange, SlicesUnfit}
 use Rattle.answers.specs.Numbers.{is_done}
 use Rattle.c_cells.specs.Cells.{cells_of, machine_from, machine_of}
 use Rattle.c_cells.specs.Checks.{within_limits, cells_answer, cells_after}

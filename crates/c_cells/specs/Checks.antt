@@ -2,8 +2,8 @@
 use Rattle.std.specs.Prelude.{Bool, true, cond, ◌&&◌, List, [], ◌∷◌, ◌++◌, ℕ, zero, suc, leb, eqb, length, get_or, replicate}
 use Rattle.machine.specs.declared.Machine.{Machine}
 use Rattle.machine.specs.Table.{Cell, cells, cell_count}
-use Rattle.answers.specs.declared.Answer.{Answer}
-use Rattle.answers.specs.declared.Answer.TheVariants.{Done, CellOutOfRange, SlicesUnfit}
+use Rattle.answers.specs.Answers.{Answer}
+use Rattle.answers.specs.Answers.{Done, CellOutOfRange, SlicesUnfit}
 use Rattle.c_cells.specs.Cells.{cells_of}
 
 -- the largest number that each may hold, in the same order

@@ -4,7 +4,7 @@ ghost use Rattle.machine.specs.Table.{cell_count};
 ghost use Rattle.c_cells.specs.Checks.{within_limits, length_answer, cells_answer};
 
 use crate::CELLS;
-use answers::Answer;
+use answers::{Answer, Refusal};
 use machine::Machine;
 
 const LONG_MAX: u32 = 0xFFFFFFFF;
@@ -71,9 +71,9 @@ pub fn length_answer(cells: &[u32]) -> Answer
     ensures { result ≡ length_answer cells.now }
 {
     if cells.len() == CELLS {
-        return Answer::Done;
+        return Ok(());
     }
-    Answer::SlicesUnfit
+    Err(Refusal::SlicesUnfit)
 }
 
 // What a slice of cells is answered by: 2 for its length, then 1.
@@ -82,10 +82,10 @@ pub fn cells_answer(cells: &[u32]) -> Answer
     ensures { result ≡ cells_answer cells.now }
 {
     if cells.len() != CELLS {
-        return Answer::SlicesUnfit;
+        return Err(Refusal::SlicesUnfit);
     }
     if !within_limits(cells) {
-        return Answer::CellOutOfRange;
+        return Err(Refusal::CellOutOfRange);
     }
-    Answer::Done
+    Ok(())
 }

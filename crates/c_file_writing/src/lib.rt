@@ -8,7 +8,7 @@ ghost use Rattle.runfile_writing.specs.Writing.{contents, write_answer, written}
 ghost use Rattle.runfile.specs.Facts.{CountsKept};
 ghost use Rattle.c_file_writing.specs.WriteCalls.{written_count};
 
-use answers::{is_done, number_of};
+use answers::number;
 use runfile_writing::{file_length, write_file};
 
 // How many bytes the file of three lists has.
@@ -33,10 +33,10 @@ pub fn write_counted(
     ensures file_count { count.new ≡ written_count (contents program.now «data».now input.now budget) bytes.old }
 {
     let answer = write_file(program, data, input, budget, bytes);
-    if !is_done(answer) {
+    if answer.is_err() {
         *count = 0;
-        return number_of(answer);
+        return u32::from(number(answer));
     }
     *count = file_bytes(program, data, input);
-    number_of(answer)
+    u32::from(number(answer))
 }

@@ -3,7 +3,7 @@ ghost use Rattle.std.specs.Prelude.{◌≡◌, length};
 ghost use Rattle.board.specs.Windows.{window_shown};
 ghost use Rattle.c_window.specs.Shown.{place_of, placed, window_called};
 
-use answers::{is_done, number_of};
+use answers::number;
 use c_cells::checking::cells_answer;
 use c_cells::reading::machine_of;
 use machine::Machine;
@@ -29,7 +29,7 @@ fn window_length<'a>(m: Machine, address: u16, rom: &'a [u16], data: &'a [u16]) 
 fn place_of<'a>(m: Machine, address: u16, rom: &'a [u16], data: &'a [u16]) -> Place
     ensures { result ≡ place_of m address rom.now «data».now }
 {
-    if !is_done(window_answer(m, address, rom, data)) {
+    if window_answer(m, address, rom, data).is_err() {
         return Place {
             memory: 0,
             from: 0,
@@ -65,11 +65,11 @@ pub fn place_window<'a>(
     ensures { placed result memory.new from.new count.new ≡ window_called cells.now address rom.now «data».now }
 {
     let checked = cells_answer(cells);
-    if !is_done(checked) {
+    if checked.is_err() {
         *memory = 0;
         *from = 0;
         *count = 0;
-        return number_of(checked);
+        return u32::from(number(checked));
     }
     let m = machine_of(cells);
     let answer = window_answer(m, address, rom, data);
@@ -77,5 +77,5 @@ pub fn place_window<'a>(
     *memory = place.memory;
     *from = place.from;
     *count = place.count;
-    number_of(answer)
+    u32::from(number(answer))
 }

@@ -1,7 +1,7 @@
 -- How the calls of a function make what its contract says.
 use Rattle.std.specs.Prelude.{◌≡◌, true, false, List, ℕ, length}
 use Rattle.machine.specs.declared.Machine.{Machine}
-use Rattle.answers.specs.declared.Answer.{Answer}
+use Rattle.answers.specs.Answers.{Answer}
 use Rattle.answers.specs.Numbers.{number_of, is_done}
 use Rattle.board.specs.Windows.{words_sent_answer, words_sent}
 use Rattle.c_cells.specs.Cells.{machine_of}

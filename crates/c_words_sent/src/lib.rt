@@ -4,7 +4,7 @@
 ghost use Rattle.std.specs.Prelude.{◌≡◌};
 ghost use Rattle.c_words_sent.specs.Sent.{counted, sent_called};
 
-use answers::{is_done, number_of};
+use answers::number;
 use c_cells::checking::cells_answer;
 use c_cells::reading::machine_of;
 use windows::{words_sent, words_sent_answer};
@@ -14,12 +14,12 @@ pub fn count_sent(cells: &[u32], output: &[u16], count: &mut usize) -> u32
     ensures { counted result count.new ≡ sent_called cells.now output.now }
 {
     let checked = cells_answer(cells);
-    if !is_done(checked) {
+    if checked.is_err() {
         *count = 0;
-        return number_of(checked);
+        return u32::from(number(checked));
     }
     let m = machine_of(cells);
     let answer = words_sent_answer(m, output);
     *count = words_sent(m, output).len();
-    number_of(answer)
+    u32::from(number(answer))
 }

@@ -4,7 +4,7 @@ use Rattle.std.proofs.Math.Path.{refl}
 use Rattle.std.proofs.Common.{ap, ◌∙◌}
 use Rattle.machine.specs.declared.Machine.{Machine}
 use Rattle.answers.specs.Numbers.{number_of, is_done}
-use Rattle.answers.specs.declared.Answer.TheVariants.{SlicesUnfit}
+use Rattle.answers.specs.Answers.{SlicesUnfit}
 use Rattle.steps.specs.declared.Outside.{Outside}
 use Rattle.steps.specs.OperandFound.{none_outside}
 use Rattle.steps.specs.World.{Outcome}

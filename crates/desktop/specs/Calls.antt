@@ -1,7 +1,7 @@
 -- A step and a run of a machine in numbers: the emulator's own on the machine of the cells, or a refusal of the cells, which changes nothing.
 use Rattle.std.specs.Prelude.{cond, List, ℕ}
-use Rattle.answers.specs.declared.Answer.{Answer}
-use Rattle.answers.specs.declared.Answer.TheVariants.{SlicesUnfit}
+use Rattle.answers.specs.Answers.{Answer}
+use Rattle.answers.specs.Answers.{SlicesUnfit}
 use Rattle.answers.specs.Numbers.{number_of, is_done}
 use Rattle.steps.specs.declared.Outside.{Outside}
 use Rattle.steps.specs.OperandFound.{none_outside}

@@ -6,7 +6,7 @@ ghost use Rattle.c_cells.specs.Checks.{length_answer, cells_after};
 ghost use Rattle.desktop.specs.Calls.{called, step_called, run_called, run_with_called};
 ghost use Rattle.board.specs.Given.{given};
 
-use answers::{Answer, number_of};
+use answers::{Refusal, number};
 use c_cell_calls::{cells_number, cells_pass, put_run, put_step, refused_run, reset_cells};
 use c_cells::reading::machine_of;
 use c_results::{put_results, results_fit};
@@ -72,7 +72,7 @@ pub fn crowmitten_run_with(
     ensures { record { results = results.new; after = called result cells.new «data».new output.new } ≡ run_with_called (given rom.now input.now) budget cells.old «data».old output.old results.old }
 {
     if !results_fit(results) {
-        return number_of(Answer::SlicesUnfit);
+        return u32::from(number(Err(Refusal::SlicesUnfit)));
     }
     if !cells_pass(cells) {
         put_results(

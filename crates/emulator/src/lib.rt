@@ -2,7 +2,7 @@
 #![tactic(auto)]
 
 ghost use Rattle.std.specs.Prelude.{◌≡◌, ◌<◌, length, set};
-ghost use Rattle.answers.specs.declared.Answer.TheVariants.{Done};
+ghost use Rattle.answers.specs.Answers.{Done};
 ghost use Rattle.kinds.specs.Table.{kind_table};
 ghost use Rattle.steps.specs.Stores.{data_after, output_after};
 ghost use Rattle.steps.proofs.StoreLaws.{WriteFits};
@@ -109,12 +109,12 @@ fn check(m: Machine, rom: &[u16], data: &[u16], input: &[u16], output_length: us
     ensures { result ≡ checks_of (given rom.now input.now) «data».now output_length m }
 {
     if !m.in_range() {
-        return Answer::CellOutOfRange;
+        return Err(Refusal::CellOutOfRange);
     }
     if !slices::slices_fit(m, rom, data, input, output_length) {
-        return Answer::SlicesUnfit;
+        return Err(Refusal::SlicesUnfit);
     }
-    Answer::Done
+    Ok(())
 }
 
 // Checks 1 and 2, and 14 of a summary that is lent.
@@ -133,9 +133,9 @@ fn check_with(
         return checked;
     }
     if !summary_fits(summary) {
-        return Answer::SummaryUnfit;
+        return Err(Refusal::SummaryUnfit);
     }
-    Answer::Done
+    Ok(())
 }
 
 // A run whose stores are counted in the summary; where none is lent, it is an empty part of some array. Checks 1 and 2 are made once: no step that is done
@@ -174,7 +174,7 @@ fn run_counted(
             break Ran {
                 m: n,
                 steps,
-                answer: Answer::Done,
+                answer: Ok(()),
                 outside: apart(totals),
             };
         }

@@ -49,12 +49,12 @@ fn plan_instruction<'a>(
 {
     let t = traits_of(i);
     if is_unrepeatable(m.rptc, t.repeatable) {
-        return refuse(m, Answer::NotRepeatable);
+        return refuse(m, Err(Refusal::NotRepeatable));
     }
     let two = t.words == 2;
     let at = registers::wrapped_sum(m.pc, 1);
     if is_program_absent(two, m.cnf, at) {
-        return refuse(m, Answer::ProgramAbsent);
+        return refuse(m, Err(Refusal::ProgramAbsent));
     }
     let second = second_word(two, m.cnf, at, rom, data);
     plan_pass(i, t, second, rom, data, input, output_length, m)
@@ -73,8 +73,8 @@ fn plan_decoded<'a>(
 {
     match d {
         Decoded::Built(i) => plan_instruction(i, rom, data, input, output_length, m),
-        Decoded::Unbuilt => refuse(m, Answer::NotBuilt),
-        Decoded::Nothing => refuse(m, Answer::NoEncoding),
+        Decoded::Unbuilt => refuse(m, Err(Refusal::NotBuilt)),
+        Decoded::Nothing => refuse(m, Err(Refusal::NoEncoding)),
     }
 }
 
@@ -90,7 +90,7 @@ pub fn plan_fetched<'a>(
     ensures { result ≡ fetch_plan_by kinds.now (given rom.now input.now) «data».now output_length m }
 {
     if !regions::program_present(m.cnf, m.pc) {
-        return refuse(m, Answer::ProgramAbsent);
+        return refuse(m, Err(Refusal::ProgramAbsent));
     }
     let word = program_word(m.cnf, m.pc, rom, data);
     plan_decoded(decode_by(kinds, word), rom, data, input, output_length, m)

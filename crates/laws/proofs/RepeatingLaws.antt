@@ -1,6 +1,6 @@
 -- The step of an RPT or RPTK that gives a count: proof.
 use Rattle.std.specs.Prelude.{◌≡◌, ℕ}
-use Rattle.answers.specs.declared.Answer.TheVariants.{Done}
+use Rattle.answers.specs.Answers.{Done}
 use Rattle.instructions.specs.declared.Instruction.{Instruction}
 use Rattle.instructions.specs.declared.Instruction.TheVariants as Family
 use Rattle.instructions.specs.declared.Modes.TheVariants.{Rpt, Rptk}

@@ -9,7 +9,7 @@ use Rattle.machine.specs.declared.Machine.{Machine}
 use Rattle.machine.specs.Cells.{with_pc, with_mid, with_rptc}
 use Rattle.machine.specs.Range.{in_range}
 use Rattle.machine.specs.RangeLaws.{ranged, in_range_lem, most, put_within}
-use Rattle.answers.specs.declared.Answer.TheVariants.{Done}
+use Rattle.answers.specs.Answers.{Done}
 use Rattle.instructions.specs.declared.Instruction.{Instruction}
 use Rattle.instructions.specs.declared.Instruction.TheVariants as Family
 use Rattle.instructions.specs.declared.Accumulator.{Accumulator}

@@ -8,7 +8,7 @@ use Rattle.std.proofs.Math.ListN.{length, length-append}
 use borrow.Author.Tests.{lt-leb, eqb-true, not-false}
 use Rattle.machine.specs.declared.Machine.{Machine}
 use Rattle.operands.specs.declared.Address.{Address}
-use Rattle.answers.specs.declared.Answer.TheVariants.{Done, InputDry}
+use Rattle.answers.specs.Answers.{Done, InputDry}
 use Rattle.answers.specs.Numbers.{number_of, is_done}
 use Rattle.instructions.specs.declared.Instruction.{Instruction}
 use Rattle.instructions.specs.declared.Instruction.TheVariants.{Transfers}

@@ -9,8 +9,8 @@ use native.Mathlib.Omega.{arith}
 use borrow.Author.Tests.{eqb-true, eqb-false, eq-eqb, ne_eqb, lt-ltb, ltb-true, ltb-false, le-leb}
 use Rattle.std.proofs.Math.Dec.{eqb}
 use Rattle.std.proofs.Math.ListN.{get_or}
-use Rattle.answers.specs.declared.Answer.{Answer}
-use Rattle.answers.specs.declared.Answer.TheVariants.{SummaryUnfit}
+use Rattle.answers.specs.Answers.{Answer}
+use Rattle.answers.specs.Answers.{SummaryUnfit}
 use Rattle.answers.specs.Numbers.{number_of, is_done}
 use Rattle.board.specs.Given.{Given}
 use Rattle.board.specs.Regions.{within, data_region, move_allowed}

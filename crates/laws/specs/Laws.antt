@@ -17,8 +17,8 @@ use Rattle.pages.specs.Addressing.{address_of}
 use Rattle.pages.specs.declared.Words.{Words}
 use Rattle.pages.specs.declared.Effect.{Effect}
 use Rattle.pages.specs.declared.Store.TheVariants as Left
-use Rattle.answers.specs.declared.Answer.{Answer}
-use Rattle.answers.specs.declared.Answer.TheVariants.{Done, InputDry, SummaryUnfit}
+use Rattle.answers.specs.Answers.{Answer}
+use Rattle.answers.specs.Answers.{Done, InputDry, SummaryUnfit}
 use Rattle.answers.specs.Numbers.{number_of, is_done}
 use Rattle.board.specs.Regions.{within, data_region, move_allowed, in_rom, in_program_b0, program_present}
 use Rattle.board.specs.Slices.{slices_fit}

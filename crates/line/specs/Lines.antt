@@ -3,7 +3,7 @@ use Rattle.std.specs.Prelude.{List, [], ◌∷◌, ◌++◌, map, ℕ}
 use Rattle.line_digits.specs.Digits.{hexadecimal, decimal}
 use Rattle.line_fields.specs.Placing.{space, newline}
 use Rattle.machine.specs.declared.Machine.{Machine}
-use Rattle.answers.specs.declared.Answer.{Answer}
+use Rattle.answers.specs.Answers.{Answer}
 use Rattle.answers.specs.Numbers.{number_of}
 use Rattle.board.specs.Windows.{words_sent}
 

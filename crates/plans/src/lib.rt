@@ -123,7 +123,7 @@ fn perform<'a>(
     let write = write_of(store, region, m.cnf, address, m.output_cursor);
     Plan {
         m: n,
-        answer: Answer::Done,
+        answer: Ok(()),
         write,
         outside,
     }

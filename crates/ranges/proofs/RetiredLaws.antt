@@ -9,7 +9,7 @@ use lib.Text.{eqt}
 use Rattle.machine.specs.declared.Machine.{Machine}
 use Rattle.machine.specs.Range.{in_range}
 use Rattle.machine.specs.RangeLaws.{ranged, most, word_most}
-use Rattle.answers.specs.declared.Answer.{Answer}
+use Rattle.answers.specs.Answers.{Answer}
 use Rattle.instructions.specs.declared.Decoded.{Decoded}
 use Rattle.instructions.specs.declared.Decoded.TheVariants.{Built, Unbuilt, Nothing}
 use Rattle.instructions.specs.Decode.{decode_of}

@@ -2,7 +2,7 @@
 use Rattle.std.specs.Prelude.{◌≡◌, true, List, [], ◌∷◌, ℕ, ◌^◌, ◌≤◌, ◌<◌, length}
 use Rattle.machine.specs.Reset.{reset_machine}
 use Rattle.machine.specs.Range.{in_range}
-use Rattle.answers.specs.declared.Answer.TheVariants.{Done}
+use Rattle.answers.specs.Answers.{Done}
 use Rattle.answers.specs.Numbers.{number_of}
 use Rattle.board.specs.Slices.{slices_fit}
 use Rattle.board.specs.Given.{Given}

@@ -91,12 +91,12 @@ fn access_refusal(t: Traits, region: Region) -> Answer
     let port = t.port;
     let access = t.access;
     if is_wrong_port(port) {
-        return Answer::WrongPort;
+        return Err(Refusal::WrongPort);
     }
     if is_accessed(access) & !regions::region_present(region) {
-        return Answer::DataAbsent;
+        return Err(Refusal::DataAbsent);
     }
-    Answer::Done
+    Ok(())
 }
 
 // What the rest asks: 11, 5 for a table word, and 10.
@@ -112,16 +112,16 @@ fn rest_refusal(
     let port = t.port;
     let spent = is_port_spent(port, input_length, output_length, m);
     if spent & is_input(port) {
-        return Answer::InputDry;
+        return Err(Refusal::InputDry);
     }
     if is_program_absent(t.table, m.cnf, table_address(m, second)) {
-        return Answer::ProgramAbsent;
+        return Err(Refusal::ProgramAbsent);
     }
     // An IN has been answered above: this is an OUT.
     if spent {
-        return Answer::OutputFull;
+        return Err(Refusal::OutputFull);
     }
-    Answer::Done
+    Ok(())
 }
 
 // The first of the last rows of the order that holds, for an operand in this region.

@@ -3,7 +3,7 @@ use Rattle.std.specs.Prelude.{◌≡◌, refl, Bool, true, false, cond, List, []
 use Rattle.std.proofs.Common.{arith, length-take, le-leb}
 use Rattle.machine.specs.declared.Machine.{Machine}
 use Rattle.machine.specs.RangeLaws.{ranged, most}
-use Rattle.answers.specs.declared.Answer.TheVariants.{Done}
+use Rattle.answers.specs.Answers.{Done}
 use Rattle.answers.specs.Numbers.{number_of, is_done}
 use Rattle.answers.proofs.NumberLaws.{done_is, number_below}
 use Rattle.board.specs.SliceLaws.{slices_fit_lem}

@@ -6,7 +6,7 @@ use Rattle.std.proofs.Math.Seq.{get_or-take}
 use borrow.Author.Tests.{eq-eqb, le-ltb}
 use Rattle.machine.specs.declared.Machine.{Machine}
 use Rattle.machine.specs.Reset.{reset_machine}
-use Rattle.answers.specs.declared.Answer.TheVariants.{Done, FileShort, FileRules, FileVersion}
+use Rattle.answers.specs.Answers.{Done, FileShort, FileRules, FileVersion}
 use Rattle.answers.specs.Numbers.{is_done}
 use Rattle.board.specs.Slices.{memories_fit}
 use Rattle.board.specs.Given.{given}

@@ -67,7 +67,7 @@ fn put_line(bytes: &[u8], line: &mut [u8]) -> usize
     ensures { (result ≡ length (replay_line bytes.now)) × (line.new ≡ replay_line bytes.now ++ drop (length (replay_line bytes.now)) line.old) }
 {
     let answer = read_answer(bytes);
-    if answers::is_done(answer) {
+    if answer.is_ok() {
         replay_accepted(bytes, line)
     } else {
         refused_line(answer, line)

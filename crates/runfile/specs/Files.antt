@@ -1,7 +1,7 @@
 -- The run file: its contents, its bytes, and what reading it gives (document 01, "The run file and its one line").
 use Rattle.std.specs.Prelude.{Bool, cond, ◌&&◌, List, [], ◌∷◌, ◌++◌, ℕ, zero, suc, ◌+◌, ◌*◌, ◌/◌, ◌%◌, ltb, leb, eqb, length, get_or}
-use Rattle.answers.specs.declared.Answer.{Answer}
-use Rattle.answers.specs.declared.Answer.TheVariants.{Done, FileShort, FileVersion, FileRules}
+use Rattle.answers.specs.Answers.{Answer}
+use Rattle.answers.specs.Answers.{Done, FileShort, FileVersion, FileRules}
 use Rattle.answers.specs.Numbers.{is_done}
 use Rattle.runfile.specs.declared.numbers.EightNumbers.{EightNumbers}
 use Rattle.runfile.specs.declared.reading.Head.{Head}

@@ -4,7 +4,7 @@ ghost use Rattle.runfile.specs.Files.{read_answer, read_contents, head_of};
 
 use crate::numbers;
 use crate::numbers::{HEAD_BYTES, VERSION};
-use answers::Answer;
+use answers::{Answer, Refusal};
 
 // How many words each of a file's lists has, and its budget.
 #[derive(Clone, Copy)]
@@ -21,16 +21,16 @@ pub fn read_answer(bytes: &[u8]) -> Answer
 {
     let length = bytes.len();
     if length < HEAD_BYTES {
-        return Answer::FileShort;
+        return Err(Refusal::FileShort);
     }
     let n = numbers::numbers_of(bytes);
     if n.version != VERSION {
-        return Answer::FileVersion;
+        return Err(Refusal::FileVersion);
     }
     if numbers::rules_kept(n, length) {
-        Answer::Done
+        Ok(())
     } else {
-        Answer::FileRules
+        Err(Refusal::FileRules)
     }
 }
 
@@ -38,7 +38,7 @@ pub fn read_answer(bytes: &[u8]) -> Answer
 pub fn head_of(bytes: &[u8]) -> Head
     ensures { result ≡ head_of (read_contents bytes.now) }
 {
-    if answers::is_done(read_answer(bytes)) {
+    if read_answer(bytes).is_ok() {
         let n = numbers::numbers_of(bytes);
         Head {
             program_count: n.program_count,

@@ -1,6 +1,6 @@
 -- The file of 26 bytes that document 01 prints: a program of five words and a budget of 5.
 use Rattle.std.specs.Prelude.{◌≡◌, refl, List, [], ◌∷◌, ℕ}
-use Rattle.answers.specs.declared.Answer.TheVariants.{Done}
+use Rattle.answers.specs.Answers.{Done}
 use Rattle.runfile.specs.Files.{Contents, bytes_of, head_words, file_of, counts_kept, words_at, numbers_of, rules_kept, read_answer, sections_of, read_contents}
 
 abbrev printed_bytes : List ℕ

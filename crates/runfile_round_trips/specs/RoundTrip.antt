@@ -7,7 +7,7 @@ use native.Mathlib.Omega.{arith}
 use Rattle.std.proofs.Math.ListN.{length, length-append}
 use Rattle.std.proofs.Math.Seq.{take_at, drop_at, take_all}
 use borrow.Author.Tests.{le-leb}
-use Rattle.answers.specs.declared.Answer.TheVariants.{Done}
+use Rattle.answers.specs.Answers.{Done}
 use Rattle.answers.specs.Numbers.{is_done}
 use Rattle.runfile.specs.declared.numbers.EightNumbers.{EightNumbers}
 use Rattle.runfile.specs.Files.{Contents, head_words, file_of, file_length, contents_fit, words_at, numbers_of, read_answer, read_contents, sections_of}

@@ -1,7 +1,7 @@
 -- What setting up lent memories and an input slice from a run file answers.
 use Rattle.std.specs.Prelude.{Bool, cond, ◌&&◌, List, ℕ, eqb, length}
-use Rattle.answers.specs.declared.Answer.{Answer}
-use Rattle.answers.specs.declared.Answer.TheVariants.{Done, SlicesUnfit}
+use Rattle.answers.specs.Answers.{Answer}
+use Rattle.answers.specs.Answers.{Done, SlicesUnfit}
 use Rattle.answers.specs.Numbers.{is_done}
 use Rattle.board.specs.Slices.{memories_fit}
 use Rattle.runfile.specs.Files.{Contents, read_answer, read_contents}

@@ -7,7 +7,7 @@ ghost use Rattle.runfile.specs.Files.{words_at, sections_of};
 ghost use Rattle.runfile_setting_up.specs.SetUp.{lent, set_up_answer, memory_with, loaded, set_up};
 ghost use Rattle.runfile_setting_up.specs.SetUpFacts.{SetUpDone};
 
-use answers::Answer;
+use answers::{Answer, Refusal};
 use runfile::{numbers, reading};
 
 // The words of each of the two memories.
@@ -21,14 +21,14 @@ pub fn set_up_answer(bytes: &[u8], rom: &[u16], data: &[u16], input: &[u16]) -> 
     ensures { result ≡ set_up_answer bytes.now (lent rom.now «data».now input.now) }
 {
     let read = reading::read_answer(bytes);
-    if !answers::is_done(read) {
+    if read.is_err() {
         return read;
     }
     let head = reading::head_of(bytes);
     if slices::memories_fit(rom, data) & (input.len() == head.input_count as usize) {
-        Answer::Done
+        Ok(())
     } else {
-        Answer::SlicesUnfit
+        Err(Refusal::SlicesUnfit)
     }
 }
 
@@ -87,7 +87,7 @@ pub fn set_up(bytes: &[u8], rom: &mut [u16], data: &mut [u16], input: &mut [u16]
     ensures input_slice { input.new ≡ (set_up bytes.now (lent rom.old «data».old input.old)).input }
 {
     let answer = set_up_answer(bytes, rom, data, input);
-    if !answers::is_done(answer) {
+    if answer.is_err() {
         return answer;
     }
     load_file(bytes, rom, data, input);

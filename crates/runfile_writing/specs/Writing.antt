@@ -1,7 +1,7 @@
 -- Writing a run file into lent bytes.
 use Rattle.std.specs.Prelude.{cond, List, ◌++◌, ℕ, leb, length, drop}
-use Rattle.answers.specs.declared.Answer.{Answer}
-use Rattle.answers.specs.declared.Answer.TheVariants.{Done, FileRules, FileNoRoom}
+use Rattle.answers.specs.Answers.{Answer}
+use Rattle.answers.specs.Answers.{Done, FileRules, FileNoRoom}
 use Rattle.answers.specs.Numbers.{is_done}
 use Rattle.runfile.specs.Files.{Contents, file_of, contents_fit}
 

@@ -8,7 +8,7 @@ use Rattle.std.proofs.Math.Dec.{leb}
 use Rattle.std.proofs.Math.ListN.{length}
 use Rattle.std.proofs.lemmas.List.Edits.{sets}
 use borrow.Author.Tests.{leb-true, le-leb, lt-leb}
-use Rattle.answers.specs.declared.Answer.TheVariants.{Done, FileRules, FileNoRoom}
+use Rattle.answers.specs.Answers.{Done, FileRules, FileNoRoom}
 use Rattle.answers.specs.Numbers.{is_done}
 use Rattle.runfile.specs.Files.{Contents, bytes_of, head_words, file_of, contents_fit}
 use Rattle.runfile.specs.WordLaws.{bytes_length, bytes_append}

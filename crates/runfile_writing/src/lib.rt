@@ -7,7 +7,7 @@ ghost use Rattle.runfile.specs.Files.{bytes_of, file_of, file_length};
 ghost use Rattle.runfile_writing.specs.Writing.{contents, write_answer, written};
 ghost use Rattle.runfile.specs.Facts.{CountsKept};
 
-use answers::Answer;
+use answers::{Answer, Refusal};
 use runfile::numbers;
 use runfile::numbers::{HEAD_BYTES, VERSION};
 
@@ -76,10 +76,10 @@ fn write_within_limits(
     ensures bytes_after { bytes.new ≡ written (contents program.now «data».now input.now budget) bytes.old }
 {
     if bytes.len() < file_length(program.len() as u16, data.len() as u16, input.len() as u16) {
-        return Answer::FileNoRoom;
+        return Err(Refusal::FileNoRoom);
     }
     put_file(program, data, input, budget, bytes);
-    Answer::Done
+    Ok(())
 }
 
 // Three word lists and a budget, as a file at the start of lent bytes: 22, then 23. A refusal puts down no byte.
@@ -94,7 +94,7 @@ pub fn write_file(
     ensures lent_bytes { bytes.new ≡ written (contents program.now «data».now input.now budget) bytes.old }
 {
     if !numbers::counts_kept(program.len(), data.len(), input.len()) {
-        return Answer::FileRules;
+        return Err(Refusal::FileRules);
     }
     write_within_limits(program, data, input, budget, bytes)
 }

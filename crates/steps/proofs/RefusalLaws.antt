@@ -2,7 +2,7 @@
 use Rattle.std.specs.Prelude.{◌≡◌, Bool, true, false, cond, ◌&&◌, ◌||◌, List, ℕ, length}
 use Rattle.std.proofs.Math.Path.{refl}
 use Rattle.machine.specs.declared.Machine.{Machine}
-use Rattle.answers.specs.declared.Answer.TheVariants.{Done, ProgramAbsent, OutputFull, InputDry}
+use Rattle.answers.specs.Answers.{Done, ProgramAbsent, OutputFull, InputDry}
 use Rattle.answers.specs.Numbers.{is_done}
 use Rattle.pages.specs.declared.Port.{Port}
 use Rattle.pages.specs.declared.Traits.{Traits}

@@ -3,7 +3,7 @@ use Rattle.std.specs.Prelude.{◌≡◌, Bool, true, false, not, cond, ◌&&◌,
 use Rattle.std.proofs.Math.Path.{refl}
 use Rattle.std.proofs.Common.{sym, ◌∙◌, ap, length-set}
 use Rattle.machine.specs.declared.Machine.{Machine}
-use Rattle.answers.specs.declared.Answer.TheVariants.{Done, SummaryUnfit}
+use Rattle.answers.specs.Answers.{Done, SummaryUnfit}
 use Rattle.answers.specs.Numbers.{is_done}
 use Rattle.answers.proofs.NumberLaws.{done_is}
 use Rattle.board.specs.Given.{Given}

@@ -1,8 +1,8 @@
 -- One pass of an instruction, decoded, with its second word: the words that it reads, what it makes of the machine, and its plan.
 use Rattle.std.specs.Prelude.{cond, List, [], ◌∷◌, ℕ, length, get_or}
 use Rattle.machine.specs.declared.Machine.{Machine}
-use Rattle.answers.specs.declared.Answer.{Answer}
-use Rattle.answers.specs.declared.Answer.TheVariants.{Done}
+use Rattle.answers.specs.Answers.{Answer}
+use Rattle.answers.specs.Answers.{Done}
 use Rattle.instructions.specs.declared.Instruction.{Instruction}
 use Rattle.pages.specs.declared.Traits.{Traits}
 use Rattle.pages.specs.declared.Effect.{Effect}

@@ -1,8 +1,8 @@
 -- What refuses a pass of an instruction, decoded, with its second word.
 use Rattle.std.specs.Prelude.{Bool, true, false, not, ◌&&◌, List, [], ◌∷◌, ◌++◌, ℕ, eqb}
 use Rattle.machine.specs.declared.Machine.{Machine}
-use Rattle.answers.specs.declared.Answer.{Answer}
-use Rattle.answers.specs.declared.Answer.TheVariants.{ProgramAbsent, WrongPort, DataAbsent, OutputFull, InputDry}
+use Rattle.answers.specs.Answers.{Answer}
+use Rattle.answers.specs.Answers.{ProgramAbsent, WrongPort, DataAbsent, OutputFull, InputDry}
 use Rattle.pages.specs.declared.Access.{Access}
 use Rattle.pages.specs.declared.Port.{Port}
 use Rattle.pages.specs.declared.Traits.{Traits}

@@ -1,7 +1,7 @@
 -- A step, and a run. A step is an answer and a world: refused, it gives back the world that it got; otherwise the world is what the page's rule makes of it.
 use Rattle.std.specs.Prelude.{cond, List, ℕ, zero, suc, length}
 use Rattle.machine.specs.declared.Machine.{Machine}
-use Rattle.answers.specs.declared.Answer.TheVariants.{Done}
+use Rattle.answers.specs.Answers.{Done}
 use Rattle.answers.specs.Numbers.{is_done}
 use Rattle.instructions.specs.declared.Decoded.{Decoded}
 use Rattle.instructions.specs.declared.Decoded.TheVariants.{Built, Unbuilt, Nothing}

@@ -1,8 +1,8 @@
 -- Which data pages held a clipped value (document 02, request 12): a summary of the stores into the data slice, kept beside a run that it is lent to.
 use Rattle.std.specs.Prelude.{Bool, not, cond, ◌&&◌, List, [], ◌∷◌, ◌++◌, ℕ, ◌+◌, ◌/◌, min, eqb, ltb, length, get_or, set, replicate}
 use Rattle.machine.specs.declared.Machine.{Machine}
-use Rattle.answers.specs.declared.Answer.{Answer}
-use Rattle.answers.specs.declared.Answer.TheVariants.{Done, SummaryUnfit}
+use Rattle.answers.specs.Answers.{Answer}
+use Rattle.answers.specs.Answers.{Done, SummaryUnfit}
 use Rattle.answers.specs.Numbers.{is_done}
 use Rattle.board.specs.Given.{Given}
 use Rattle.steps.specs.declared.Outside.{Outside}

@@ -3,8 +3,8 @@ use Rattle.std.specs.Prelude.{Bool, not, cond, ◌&&◌, List, [], ◌∷◌, �
 use Rattle.alu.specs.Registers.{wrapped_sum}
 use Rattle.machine.specs.declared.Machine.{Machine}
 use Rattle.machine.specs.Range.{in_range}
-use Rattle.answers.specs.declared.Answer.{Answer}
-use Rattle.answers.specs.declared.Answer.TheVariants.{CellOutOfRange, SlicesUnfit, NoEncoding, NotBuilt, ProgramAbsent, NotRepeatable}
+use Rattle.answers.specs.Answers.{Answer}
+use Rattle.answers.specs.Answers.{CellOutOfRange, SlicesUnfit, NoEncoding, NotBuilt, ProgramAbsent, NotRepeatable}
 use Rattle.instructions.specs.declared.Instruction.{Instruction}
 use Rattle.instructions.specs.declared.Decoded.{Decoded}
 use Rattle.instructions.specs.declared.Decoded.TheVariants.{Built, Unbuilt, Nothing}

@@ -1,7 +1,7 @@
 -- What a step sees and changes.
 use Rattle.std.specs.Prelude.{List, ℕ}
 use Rattle.machine.specs.declared.Machine.{Machine}
-use Rattle.answers.specs.declared.Answer.{Answer}
+use Rattle.answers.specs.Answers.{Answer}
 
 -- the cells, the data words and the output words; the ROM and the input words are given beside it
 pub record World : Type 0 where

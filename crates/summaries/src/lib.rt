@@ -29,10 +29,10 @@ pub fn reset_summary(summary: &mut [u16]) -> Answer
     ensures fresh { summary.new ≡ reset_summary summary.old }
 {
     if !summary_fits(summary) {
-        return Answer::SummaryUnfit;
+        return Err(Refusal::SummaryUnfit);
     }
     slices::clear(summary);
-    Answer::Done
+    Ok(())
 }
 
 // "Both stop at 65,535."

@@ -29,15 +29,15 @@ pub fn window_answer(m: Machine, at: u16, rom: &[u16], data: &[u16]) -> Answer
     ensures { result ≡ window_answer m at rom.now «data».now }
 {
     if !m.in_range() {
-        return Answer::CellOutOfRange;
+        return Err(Refusal::CellOutOfRange);
     }
     if !memories_fit(rom, data) {
-        return Answer::SlicesUnfit;
+        return Err(Refusal::SlicesUnfit);
     }
     if !program_present(m.cnf, at) {
-        return Answer::ProgramAbsent;
+        return Err(Refusal::ProgramAbsent);
     }
-    Answer::Done
+    Ok(())
 }
 
 // The fetch window, empty on a refusal.
@@ -56,12 +56,12 @@ pub fn words_sent_answer(m: Machine, output: &[u16]) -> Answer
     ensures { result ≡ words_sent_answer m output.now }
 {
     if !m.in_range() {
-        return Answer::CellOutOfRange;
+        return Err(Refusal::CellOutOfRange);
     }
     if !port_fits(output.len(), m.output_cursor) {
-        return Answer::SlicesUnfit;
+        return Err(Refusal::SlicesUnfit);
     }
-    Answer::Done
+    Ok(())
 }
 
 // The words sent on port 1: the first part of the output slice, up to the cursor; empty on a refusal.
