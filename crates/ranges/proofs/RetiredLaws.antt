@@ -19,7 +19,7 @@ use Rattle.pages.specs.Traits.{traits_of}
 use Rattle.pages.specs.Addressing.{address_of}
 use Rattle.board.specs.Windows.{program_word}
 use Rattle.board.specs.Given.{Given}
-use Rattle.steps.specs.declared.Plan.{Plan}
+use Rattle.steps.specs.Plan.{Plan}
 use Rattle.steps.specs.Rows.{Row}
 use Rattle.steps.specs.Refusals.{accesses, pass_rows, access_rows, rest_rows}
 use Rattle.steps.specs.Pass.{refused, plan_by}
