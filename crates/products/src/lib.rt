@@ -17,7 +17,7 @@ pub fn product(x: u16, y: u16) -> u32
     (a * b % 4294967296) as u32
 }
 
-// MPYK's 13-bit constant, from its word.
+// MPYK's 13-bit constant, from its word: adding 57,344 (E000h) where bit 12 is set fills bits 15 to 13 with the sign.
 #[tactic(auto, using(crate::specs::ProductLaws::constant_is))]
 pub fn long_constant(k: u16) -> u16
     ensures { result ≡ long_constant k }
@@ -26,7 +26,7 @@ pub fn long_constant(k: u16) -> u16
     bits + bits / 4096 * 57344
 }
 
-// The product shifted left by `k` places and right by 6, with its sign: one way of working for every PM.
+// The product shifted left by `k` places and right by 6, with its sign: one way of working for every PM. 64 bits are enough: what the shifts lose and fill in lies above the 32 bits that are kept.
 #[tactic(auto, using(crate::specs::ProductLaws::scale_law))]
 fn scale(p: u32, k: u32) -> u32
     requires { k ≤ 32 }

@@ -52,7 +52,7 @@ pub fn stored_high(acc: u32, s: u8) -> u16
     bits::high_half(shift_left(acc, s))
 }
 
-// SFL
+// SFL. Doubling without the top bit is doubling modulo 2^32.
 #[tactic(auto, using(crate::specs::ShiftLaws::left_is))]
 pub fn left_by_one(acc: u32) -> Shifted
     ensures { result ≡ left_by_one acc }
@@ -63,7 +63,7 @@ pub fn left_by_one(acc: u32) -> Shifted
     }
 }
 
-// SFR
+// SFR. Half the word, with the top bit put in again where it is set, is the signed half.
 #[tactic(auto, using(crate::specs::ShiftLaws::right_signed, crate::specs::ShiftLaws::right_plain))]
 pub fn right_by_one(acc: u32, sxm: u8) -> Shifted
     ensures { result ≡ right_by_one acc sxm }

@@ -51,6 +51,7 @@ fn settle(m: u64, less: u64, ov: u8, ovm: u8, c: u8) -> Sum
     }
 }
 
+// A set sign bit is worth 2^32 less: ACC and `x`, less 2^32 for each, make the exact signed sum.
 #[tactic(auto, using(crate::specs::SumLaws::add_settled), unfolding(alu::specs::Sums::added, alu::specs::Sums::carry))]
 pub fn add(acc: u32, x: u32, ov: u8, ovm: u8) -> Sum
     ensures { result ≡ added acc x ov ovm }
@@ -60,6 +61,7 @@ pub fn add(acc: u32, x: u32, ov: u8, ovm: u8) -> Sum
     settle(m, less, ov, ovm, (m / 4294967296) as u8)
 }
 
+// With 2^32 added the difference never goes below 0, and the bit above the 32 is 1 just where nothing is borrowed.
 #[tactic(auto, using(crate::proofs::DifferenceLaws::subtract_settled))]
 pub fn subtract(acc: u32, x: u32, ov: u8, ovm: u8) -> Sum
     ensures { result ≡ subtracted acc x ov ovm }
