@@ -1,5 +1,5 @@
 -- What every pass of a repeatable instruction does: proofs.
-use Rattle.std.specs.Prelude.{◌≡◌, Bool, false, cond, ◌&&◌, List, ℕ, suc, ◌-◌, ◌≤◌, ltb, length}
+use Rattle.std.specs.Prelude.{◌≡◌, Bool, false, cond, ◌&&◌, List, ℕ, suc, ◌-◌, ◌≤◌, ltb, length, None}
 use Rattle.std.proofs.Math.Path.{refl, sym, ap}
 use Rattle.std.proofs.Common.{◌∙◌, arith, lt-ltb}
 use Rattle.std.proofs.Math.Bool.{true, not}
@@ -34,7 +34,6 @@ use Rattle.operands.specs.declared.NextArp.{NextArp}
 use Rattle.operands.specs.declared.NextArp.TheVariants.{Same, To}
 use Rattle.operands.specs.declared.Address.TheVariants as Mode
 use Rattle.pages.specs.declared.Effect.{Effect}
-use Rattle.pages.specs.declared.Jump.TheVariants as Jump
 use Rattle.pages.specs.Passes.{destination, followed}
 use Rattle.pages.specs.declared.Operand.{Operand}
 use Rattle.pages.specs.declared.Traits.{Traits}
@@ -63,7 +62,7 @@ counted_at m n pc = with_pc (with_rptc m n) pc
 
 -- what a rule gives that neither reads nor changes RPTC and PC, and sends PC nowhere
 abbrev uncounted : Effect → ℕ → ℕ → Effect
-uncounted e n pc = record { m = counted_at e.m n pc; store = e.store; jump = Jump.Past }
+uncounted e n pc = record { m = counted_at e.m n pc; store = e.store; jump = None }
 
 accumulator_counted : (i : Accumulator) (m : Machine) (w : ℕ) (n pc : ℕ) → (accumulator_traits i).repeatable ≡ true
     → accumulator_rule i (counted_at m n pc) w ≡ uncounted (accumulator_rule i m w) n pc
@@ -212,7 +211,7 @@ module _ (i : Instruction) (h : (traits_of i).repeatable ≡ true) (second : ℕ
 
   -- the machine after the pass, with RPTC n before it
   passed_with : (n : ℕ) → passed_machine (traits_of i) i second g «data» (counted_at m n m.pc)
-      ≡ followed (counted_at (effect_of (traits_of i) i second g «data» m).m n m.pc) Jump.Past (traits_of i).words true
+      ≡ followed (counted_at (effect_of (traits_of i) i second g «data» m).m n m.pc) None (traits_of i).words true
   unfolding passed_machine
   passed_with n = rw (effect_counted n m.pc, h)
 
@@ -220,18 +219,18 @@ module _ (i : Instruction) (h : (traits_of i).repeatable ≡ true) (second : ℕ
   unfolding passed_write
   written_with n = rw (effect_counted n m.pc, found_counted (traits_of i) «data» m n m.pc, address_counted (traits_of i).operand m n m.pc)
 
-follows_on : (m : Machine) (n pc words : ℕ) → followed (counted_at m (suc n) pc) Jump.Past words true ≡ with_mid (with_rptc (with_pc m pc) n) 1
+follows_on : (m : Machine) (n pc words : ℕ) → followed (counted_at m (suc n) pc) None words true ≡ with_mid (with_rptc (with_pc m pc) n) 1
 unfolding followed
 follows_on m n pc words =
     let a : ltb 0 (suc n) ≡ true = lt-ltb 0 (suc n) (omega arith) in
     let b : suc n - 1 ≡ n = omega arith in
     rw (a, b)
 
-follows_last : (m : Machine) (pc words : ℕ) → followed (counted_at m 0 pc) Jump.Past words true ≡ with_pc (with_mid (with_rptc m 0) 0) (wrapped_sum pc words)
+follows_last : (m : Machine) (pc words : ℕ) → followed (counted_at m 0 pc) None words true ≡ with_pc (with_mid (with_rptc m 0) 0) (wrapped_sum pc words)
 unfolding followed destination
 follows_last m pc words = refl
 
-follows_work : (m : Machine) (n pc words : ℕ) → with_pc (with_mid (with_rptc (followed (counted_at m n pc) Jump.Past words true) 0) 0) 0 ≡ with_pc (with_mid (with_rptc m 0) 0) 0
+follows_work : (m : Machine) (n pc words : ℕ) → with_pc (with_mid (with_rptc (followed (counted_at m n pc) None words true) 0) 0) 0 ≡ with_pc (with_mid (with_rptc m 0) 0) 0
 unfolding followed
 follows_work m n pc words = by (ltb 0 n) _ _
   where
@@ -299,7 +298,7 @@ module _ (g : Given) (w : World) (i : Instruction) (d : decoded_at g w.«data» 
     (e : (step_of g w).answer ≡ Done) where
   -- the machine after the step, by the RPTC before it
   machine_after : (n : ℕ) → w.m.rptc ≡ n
-      → (step_of g w).world.m ≡ followed (counted_at (effect_at g w i).m n w.m.pc) Jump.Past (traits_of i).words true
+      → (step_of g w).world.m ≡ followed (counted_at (effect_at g w i).m n w.m.pc) None (traits_of i).words true
   unfolding after_store performed
   machine_after n f =
       rw (← f, step_world g w i d e)

@@ -38,7 +38,7 @@ pub struct Traits {
 }
 
 // The words that a pass reads. What the instruction does not use is not looked at.
-#[derive(Clone, Copy)]
+#[derive(Clone, Copy, Debug, PartialEq, Eq, Hash)]
 pub struct Words {
     // The data word at the operand's address.
     pub operand: u16,
@@ -52,7 +52,7 @@ pub struct Words {
 }
 
 // What a pass stores besides the machine's cells.
-#[derive(Clone, Copy)]
+#[derive(Clone, Copy, Debug, PartialEq, Eq, Hash)]
 pub enum Store {
     Nothing,
     // A data word, at the operand's address.
@@ -63,17 +63,11 @@ pub enum Store {
     Sent(u16),
 }
 
-// Where PC goes: past the instruction's words, or to where the instruction sends it.
-#[derive(Clone, Copy)]
-pub enum Jump {
-    Past,
-    To(u16),
-}
-
 // The machine after a page's rule, RPTC, MID and PC not yet moved on, and what is to be stored.
-#[derive(Clone, Copy)]
+#[derive(Clone, Copy, Debug, PartialEq, Eq, Hash)]
 pub struct Effect {
     pub m: Machine,
     pub store: Store,
-    pub jump: Jump,
+    // Where the instruction sends PC; where it sends it nowhere, PC moves past the instruction's words.
+    pub jump: Option<u16>,
 }

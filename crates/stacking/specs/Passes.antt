@@ -1,5 +1,5 @@
 -- The repeat instruction, the passes and the final product add, step by step.
-use Rattle.std.specs.Prelude.{◌≡◌, Bool, cond, List, [], ◌∷◌, ℕ, zero, suc, ◌+◌, ◌-◌, ◌^◌, ◌≤◌, ◌<◌, set}
+use Rattle.std.specs.Prelude.{◌≡◌, Bool, cond, List, [], ◌∷◌, ℕ, zero, suc, ◌+◌, ◌-◌, ◌^◌, ◌≤◌, ◌<◌, set, None}
 use Rattle.std.proofs.Math.Path.{refl, ap}
 use Rattle.std.proofs.Common.{◌∙◌, arith}
 use Rattle.std.proofs.Math.Bool.{true, false}
@@ -12,7 +12,6 @@ use Rattle.instructions.specs.declared.Instruction.{Instruction}
 use Rattle.instructions.specs.declared.Decoded.TheVariants.{Built}
 use Rattle.pages.specs.declared.Operand.TheVariants.{At}
 use Rattle.pages.specs.Traits.{traits_of, multiplier_traits}
-use Rattle.pages.specs.declared.Jump.TheVariants.{Past}
 use Rattle.pages.specs.Passes.{followed}
 use Rattle.pages.specs.Addressing.{addressed, address_of}
 use Rattle.pages.specs.MultiplierPages.{APAC, MAC, MACD}
@@ -92,10 +91,10 @@ pub record Went (g : Given) (w v : World) (pair : Pair) : Type 0 where
 -- the machine of a pass, whatever it stores
 module _ (g : Given) (w : World) (n : Machine) (a : Alike w.m n) (word table at : ℕ) (d output : List ℕ)
     (program : (x : ℕ) → program_word w.m.cnf x g.rom d ≡ program_word w.m.cnf x g.rom w.«data») (sized : Sized w.«data» → Sized d) where
-  went : Went g w (record { m = followed (MAC word table at n) Past 2 true; «data» = d; output = output }) (record { data_word = word; program_word = table })
+  went : Went g w (record { m = followed (MAC word table at n) None 2 true; «data» = d; output = output }) (record { data_word = word; program_word = table })
   unfolding MAC APAC
   went =
-      let f = followed_follows (MAC word table at n) Past 2 true in
+      let f = followed_follows (MAC word table at n) None 2 true in
       record {
         accumulation = f.accumulation ∙ mac_works w.m n a word table at;
         ovm = f.ovm ∙ a.ovm;
