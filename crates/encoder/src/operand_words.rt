@@ -2,7 +2,7 @@
 ghost use Rattle.std.specs.Prelude.{◌≡◌, ◌+◌, ◌*◌, ◌%◌};
 ghost use Rattle.encodings.specs.Encode.{modification_bits, next_bits, indirect_bits, is_indirect, address_bits};
 
-use operands::{Address, Indirect, Modification, NextArp};
+use operands::{Address, Indirect, Modification};
 
 // Bits 6 to 4 of an indirect operand (Table 4-1).
 fn modification_bits(m: Modification) -> u8
@@ -20,28 +20,26 @@ fn modification_bits(m: Modification) -> u8
 }
 
 // Bits 3 to 0.
-fn next_bits(n: NextArp) -> u8
+fn next_bits(n: Option<u8>) -> u8
     ensures { result ≡ next_bits n }
 {
     match n {
-        NextArp::Same => 0,
-        NextArp::To(r) => 8 + r % 8,
+        None => 0,
+        Some(r) => 8 + r % 8,
     }
 }
 
 fn indirect_bits(i: Indirect) -> u8
     ensures { result ≡ indirect_bits i }
 {
-    let m = i.modification;
-    let n = i.next;
-    modification_bits(m) * 16 + next_bits(n)
+    modification_bits(i.modification) * 16 + next_bits(i.next)
 }
 
 // An upper byte and a constant.
 pub fn constant(upper: u8, k: u8) -> u16
     ensures { result ≡ upper * 256 + k % 256 }
 {
-    (upper as u16) * 256 + (k as u16)
+    u16::from(upper) * 256 + u16::from(k)
 }
 
 // An upper byte and 1DDD DDDD.

@@ -2,7 +2,7 @@
 #![tactic(auto)]
 
 // What an indirect operand makes of AR(ARP) after its use (Table 4-1; 011 is reserved and is no case).
-#[derive(Clone, Copy)]
+#[derive(Clone, Copy, Debug, PartialEq, Eq)]
 pub enum Modification {
     None,
     Minus,
@@ -13,22 +13,16 @@ pub enum Modification {
     PlusReversed,
 }
 
-// Bit 3 of an indirect operand: ARP stays, or becomes bits 2 to 0.
-#[derive(Clone, Copy)]
-pub enum NextArp {
-    Same,
-    To(u8),
-}
-
 // An indirect operand, 4.1.2. Branches have no other kind.
-#[derive(Clone, Copy)]
+#[derive(Clone, Copy, Debug, PartialEq, Eq)]
 pub struct Indirect {
     pub modification: Modification,
-    pub next: NextArp,
+    // Bit 3: where it is 0, ARP stays; else ARP becomes bits 2 to 0.
+    pub next: Option<u8>,
 }
 
 // A data memory operand: direct with its offset in the page (4.1.1), or indirect.
-#[derive(Clone, Copy)]
+#[derive(Clone, Copy, Debug, PartialEq, Eq)]
 pub enum Address {
     Direct(u8),
     Indirect(Indirect),

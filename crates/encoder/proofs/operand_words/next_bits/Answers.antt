@@ -1,10 +1,10 @@
 use Rattle.encodings.specs.Encode.{next_bits}
 use Rattle.encoder.proofs.operand_words.next_bits.Goals as goal
 
-pub returns-in-Same : goal.returns-in-Same
+pub returns-in-None : goal.returns-in-None
 unfolding next_bits
-returns-in-Same c = rw c.in-Same.is
+returns-in-None c = rw c.in-None.is
 
-pub returns-in-To : goal.returns-in-To
+pub returns-in-Some : goal.returns-in-Some
 unfolding next_bits
-returns-in-To c = rw c.in-To.is
+returns-in-Some c = rw c.in-Some.is
