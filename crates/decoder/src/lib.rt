@@ -32,6 +32,7 @@ fn kind_of(kinds: &[u8], upper: u8) -> u8
 }
 
 // CEh and a low byte: above 63 there are CMPR (0101 00KK) and NORM (1MMM 0010).
+#[tactic(auto, unfolding(kinds::specs::Groups::control_place, kinds::specs::Groups::controls))]
 fn control_of(low: u8) -> u8
     ensures { result ≡ control_place controls low }
 {
@@ -48,6 +49,7 @@ fn control_of(low: u8) -> u8
 }
 
 // A long immediate's low byte: 0 (LRLK) or 1 to 6.
+#[tactic(auto, unfolding(kinds::specs::Groups::long_place))]
 fn long_of(least: u8, low: u8) -> u8
     ensures { result ≡ long_place least low }
 {
@@ -58,6 +60,7 @@ fn long_of(least: u8, low: u8) -> u8
     }
 }
 
+#[tactic(auto, using(kinds::specs::Groups::control_place_lem, kinds::specs::Groups::long_place_lem, kinds::specs::Groups::long_place_1, kinds::specs::Groups::group_else))]
 fn group_page(kind: u8, low: u8) -> u8
     ensures { result ≡ lower_in 133 (group_of kind) low }
 {
@@ -69,6 +72,7 @@ fn group_page(kind: u8, low: u8) -> u8
 }
 
 // The kinds with a low byte IDDD DDDD.
+#[tactic(auto, unfolding(kinds::specs::Kinds::is_addressed))]
 fn is_addressed(kind: u8) -> bool
     ensures { result ≡ is_addressed kind }
 {
@@ -76,6 +80,7 @@ fn is_addressed(kind: u8) -> bool
 }
 
 // The kinds with a low byte 1DDD DDDD.
+#[tactic(auto, unfolding(kinds::specs::Kinds::is_branch))]
 fn is_branch(kind: u8) -> bool
     ensures { result ≡ is_branch kind }
 {
@@ -83,6 +88,7 @@ fn is_branch(kind: u8) -> bool
 }
 
 // The place of the page of a kind and a low byte.
+#[tactic(auto, unfolding(kinds::specs::Kinds::place_of_kind))]
 fn page_of(kind: u8, low: u8) -> u8
     ensures { result ≡ place_of_kind kind low }
 {
@@ -99,6 +105,7 @@ fn page_of(kind: u8, low: u8) -> u8
 }
 
 // What a word is by a table of kinds.
+#[tactic(auto, unfolding(crate::specs::ByTable::decode_by))]
 pub fn decode_by(kinds: &[u8], w: u16) -> Decoded
     ensures { result ≡ decode_by kinds.now w }
 {
@@ -107,6 +114,7 @@ pub fn decode_by(kinds: &[u8], w: u16) -> Decoded
 }
 
 // What a word is.
+#[tactic(auto, using(crate::specs::TableLaws::decode_by_kinds))]
 pub fn decode(w: u16) -> Decoded
     ensures { result ≡ decode_of w }
 {
