@@ -1,4 +1,5 @@
-// The decoder: a table of the 256 upper bytes gives the kind, and the low byte the page.
+// The decoder: a table of the 256 upper bytes gives the kind, and the low byte the page. Kinds and places are numbers and no enums: `decode_by`
+// promises its answer for every table of bytes, and a place is the number that the definition `meaning_at` counts the pages by.
 #![tactic(auto)]
 
 ghost use Rattle.std.specs.Prelude.{◌≡◌, get_or};
@@ -37,15 +38,14 @@ fn control_of(low: u8) -> u8
     ensures { result ≡ control_place controls low }
 {
     if low < 64 {
-        return CONTROLS[usize::from(low)];
+        CONTROLS[usize::from(low)]
+    } else if low / 4 == 20 {
+        102
+    } else if low >= 128 && low % 16 == 2 && low / 16 != 11 {
+        122
+    } else {
+        NO_PAGE
     }
-    if low / 4 == 20 {
-        return 102;
-    }
-    if (128 <= low) & (low % 16 == 2) & (low / 16 != 11) {
-        return 122;
-    }
-    NO_PAGE
 }
 
 // A long immediate's low byte: 0 (LRLK) or 1 to 6.

@@ -3,7 +3,8 @@ use Rattle.std.specs.Prelude.{◌<◌, ℕ, Option, Some, None}
 use Rattle.std.proofs.Common.{arith, ltb→lt}
 use Rattle.operands.specs.declared.Modification.{Modification}
 use Rattle.operands.specs.declared.Modification.TheVariants.{Minus, Plus, MinusReversed, MinusIndex, PlusIndex, PlusReversed}
-use Rattle.encodings.specs.Encode.{modification_bits, next_bits}
+use Rattle.operands.specs.Bits.{modification_bits}
+use Rattle.encodings.specs.Encode.{next_bits}
 
 pub modification_lt : (m : Modification) → modification_bits m < 8
 unfolding modification_bits

@@ -62,7 +62,7 @@ fn multiplier_word(x: Multiplier) -> u16
         Multiplier::Spac => 0xCE16,
         Multiplier::Spl(a) => addressed(0x7C, a),
         Multiplier::Sph(a) => addressed(0x7D, a),
-        Multiplier::Spm(k) => 0xCE08 + u16::from(k % 4),
+        Multiplier::Spm(k) => 0xCE08 + (k % 4) as u16,
     }
 }
 
@@ -128,6 +128,7 @@ fn mode_word(x: Modes) -> u16
 }
 
 // The word of an instruction.
+#[tactic(auto, unfolding(encodings::specs::Encode::encode_of, encodings::specs::Encode::fields_of))]
 pub fn encode(i: Instruction) -> u16
     ensures { result ≡ encode_of i }
 {
