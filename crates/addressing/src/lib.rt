@@ -62,7 +62,11 @@ fn point(m: Machine, next: Option<u8>) -> Machine
 {
     match next {
         None => m,
-        Some(arp) => Machine { arb: m.arp, arp, ..m },
+        Some(arp) => Machine {
+            arb: m.arp,
+            arp,
+            ..m
+        },
     }
 }
 
@@ -70,7 +74,11 @@ fn point(m: Machine, next: Option<u8>) -> Machine
 pub fn modify(m: Machine, operand: Indirect) -> Machine
     ensures { result ≡ modified operand m }
 {
-    let word = moved_register(operand.modification, register_of(m, m.arp), register_of(m, 0));
+    let word = moved_register(
+        operand.modification,
+        register_of(m, m.arp),
+        register_of(m, 0),
+    );
     point(with_register(m, m.arp, word), operand.next)
 }
 

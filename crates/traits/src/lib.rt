@@ -19,54 +19,94 @@ const PLAIN: Traits = Traits {
 };
 
 // No operand, one word, not repeatable.
-const CONSTANT: Traits = Traits { repeatable: false, ..PLAIN };
+const CONSTANT: Traits = Traits {
+    repeatable: false,
+    ..PLAIN
+};
 
 fn reading_traits(a: Address) -> Traits
     ensures { result ≡ reading a }
 {
-    Traits { operand: Some(a), access: Access::Reads, ..PLAIN }
+    Traits {
+        operand: Some(a),
+        access: Access::Reads,
+        ..PLAIN
+    }
 }
 
 fn writing_traits(a: Address) -> Traits
     ensures { result ≡ writing a }
 {
-    Traits { operand: Some(a), access: Access::Writes, ..PLAIN }
+    Traits {
+        operand: Some(a),
+        access: Access::Writes,
+        ..PLAIN
+    }
 }
 
 fn modifying_traits(a: Address) -> Traits
     ensures { result ≡ modifying a }
 {
-    Traits { operand: Some(a), ..PLAIN }
+    Traits {
+        operand: Some(a),
+        ..PLAIN
+    }
 }
 
 fn counting_traits(a: Address) -> Traits
     ensures { result ≡ counting a }
 {
-    Traits { operand: Some(a), repeatable: false, access: Access::Reads, ..PLAIN }
+    Traits {
+        operand: Some(a),
+        repeatable: false,
+        access: Access::Reads,
+        ..PLAIN
+    }
 }
 
 fn tabled_traits(a: Address) -> Traits
     ensures { result ≡ tabled a }
 {
-    Traits { operand: Some(a), words: 2, access: Access::Reads, table: true, ..PLAIN }
+    Traits {
+        operand: Some(a),
+        words: 2,
+        access: Access::Reads,
+        table: true,
+        ..PLAIN
+    }
 }
 
 fn branching_traits(i: Indirect) -> Traits
     ensures { result ≡ branching i }
 {
-    Traits { operand: Some(Address::Indirect(i)), words: 2, repeatable: false, ..PLAIN }
+    Traits {
+        operand: Some(Address::Indirect(i)),
+        words: 2,
+        repeatable: false,
+        ..PLAIN
+    }
 }
 
 fn taking_traits(port: u8, a: Address) -> Traits
     ensures { result ≡ taking port a }
 {
-    Traits { operand: Some(a), access: Access::Writes, port: Port::Input(port), ..PLAIN }
+    Traits {
+        operand: Some(a),
+        access: Access::Writes,
+        port: Port::Input(port),
+        ..PLAIN
+    }
 }
 
 fn sending_traits(port: u8, a: Address) -> Traits
     ensures { result ≡ sending port a }
 {
-    Traits { operand: Some(a), access: Access::Reads, port: Port::Output(port), ..PLAIN }
+    Traits {
+        operand: Some(a),
+        access: Access::Reads,
+        port: Port::Output(port),
+        ..PLAIN
+    }
 }
 
 #[tactic(auto, unfolding(pages::specs::Traits::accumulator_traits))]
@@ -74,10 +114,26 @@ fn accumulator_traits(i: Accumulator) -> Traits
     ensures { result ≡ accumulator_traits i }
 {
     match i {
-        Accumulator::Add(_, a) | Accumulator::Sub(_, a) | Accumulator::Lac(_, a) | Accumulator::Addh(a) | Accumulator::Adds(a) | Accumulator::Subh(a) | Accumulator::Subs(a) | Accumulator::Subc(a) | Accumulator::Zalh(a) | Accumulator::Zals(a) | Accumulator::And(a) | Accumulator::Or(a) | Accumulator::Xor(a) => reading_traits(a),
+        Accumulator::Add(_, a)
+        | Accumulator::Sub(_, a)
+        | Accumulator::Lac(_, a)
+        | Accumulator::Addh(a)
+        | Accumulator::Adds(a)
+        | Accumulator::Subh(a)
+        | Accumulator::Subs(a)
+        | Accumulator::Subc(a)
+        | Accumulator::Zalh(a)
+        | Accumulator::Zals(a)
+        | Accumulator::And(a)
+        | Accumulator::Or(a)
+        | Accumulator::Xor(a) => reading_traits(a),
         Accumulator::Sacl(_, a) | Accumulator::Sach(_, a) => writing_traits(a),
         Accumulator::Lack(_) | Accumulator::Addk(_) | Accumulator::Subk(_) => CONSTANT,
-        Accumulator::Cmpl | Accumulator::Neg | Accumulator::Abs | Accumulator::Sfl | Accumulator::Sfr => PLAIN,
+        Accumulator::Cmpl
+        | Accumulator::Neg
+        | Accumulator::Abs
+        | Accumulator::Sfl
+        | Accumulator::Sfr => PLAIN,
     }
 }
 
@@ -86,7 +142,16 @@ fn multiplier_traits(i: Multiplier) -> Traits
     ensures { result ≡ multiplier_traits i }
 {
     match i {
-        Multiplier::Lt(a) | Multiplier::Lta(a) | Multiplier::Ltp(a) | Multiplier::Ltd(a) | Multiplier::Lts(a) | Multiplier::Mpy(a) | Multiplier::Mpya(a) | Multiplier::Mpys(a) | Multiplier::Sqra(a) | Multiplier::Sqrs(a) => reading_traits(a),
+        Multiplier::Lt(a)
+        | Multiplier::Lta(a)
+        | Multiplier::Ltp(a)
+        | Multiplier::Ltd(a)
+        | Multiplier::Lts(a)
+        | Multiplier::Mpy(a)
+        | Multiplier::Mpya(a)
+        | Multiplier::Mpys(a)
+        | Multiplier::Sqra(a)
+        | Multiplier::Sqrs(a) => reading_traits(a),
         Multiplier::Mpyk(_) | Multiplier::Spm(_) => CONSTANT,
         Multiplier::Mac(a) | Multiplier::Macd(a) => tabled_traits(a),
         Multiplier::Pac | Multiplier::Apac | Multiplier::Spac => PLAIN,
@@ -101,7 +166,8 @@ fn auxiliary_traits(i: Auxiliary) -> Traits
     match i {
         Auxiliary::Lar(_, a) | Auxiliary::Ldp(a) => reading_traits(a),
         Auxiliary::Sar(_, a) => writing_traits(a),
-        Auxiliary::Lark(_, _) | Auxiliary::Adrk(_) | Auxiliary::Sbrk(_) | Auxiliary::Ldpk(_) => CONSTANT,
+        Auxiliary::Lark(_, _) | Auxiliary::Adrk(_) | Auxiliary::Sbrk(_) | Auxiliary::Ldpk(_) =>
+            CONSTANT,
         Auxiliary::Mar(a) => modifying_traits(a),
     }
 }
@@ -111,7 +177,17 @@ fn branches_traits(i: Branches) -> Traits
     ensures { result ≡ branches_traits i }
 {
     match i {
-        Branches::B(indirect) | Branches::Banz(indirect) | Branches::Bz(indirect) | Branches::Bnz(indirect) | Branches::Bgz(indirect) | Branches::Bgez(indirect) | Branches::Blz(indirect) | Branches::Blez(indirect) | Branches::Bv(indirect) | Branches::Bnv(indirect) | Branches::Call(indirect) => branching_traits(indirect),
+        Branches::B(indirect)
+        | Branches::Banz(indirect)
+        | Branches::Bz(indirect)
+        | Branches::Bnz(indirect)
+        | Branches::Bgz(indirect)
+        | Branches::Bgez(indirect)
+        | Branches::Blz(indirect)
+        | Branches::Blez(indirect)
+        | Branches::Bv(indirect)
+        | Branches::Bnv(indirect)
+        | Branches::Call(indirect) => branching_traits(indirect),
         Branches::Ret => CONSTANT,
     }
 }
@@ -132,7 +208,14 @@ fn modes_traits(i: Modes) -> Traits
     ensures { result ≡ modes_traits i }
 {
     match i {
-        Modes::Sovm | Modes::Rovm | Modes::Ssxm | Modes::Rsxm | Modes::Cnfd | Modes::Cnfp | Modes::Push | Modes::Pop => PLAIN,
+        Modes::Sovm
+        | Modes::Rovm
+        | Modes::Ssxm
+        | Modes::Rsxm
+        | Modes::Cnfd
+        | Modes::Cnfp
+        | Modes::Push
+        | Modes::Pop => PLAIN,
         Modes::Rpt(a) => counting_traits(a),
         Modes::Rptk(_) => CONSTANT,
     }
