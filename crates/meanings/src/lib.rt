@@ -1,4 +1,4 @@
-// What the page at a place in the list of pages makes of a word.
+// What the page at a place in the list of pages makes of a word. A place is a number and no enum, as the definition `meaning_at` counts the pages.
 #![tactic(auto)]
 
 ghost use Rattle.std.specs.Prelude.{◌≡◌, ◌<◌, ◌≤◌};
@@ -17,7 +17,7 @@ const BASE_PAGES: u8 = 75;
 
 const PAGES: u8 = 133;
 
-// Bits 6 to 4 of an indirect operand (Table 4-1).
+// Bits 6 to 4 of an indirect operand (Table 4-1). No TryFrom: the definition `modification_of` refuses no number, and gives None for 3 too.
 #[tactic(auto, unfolding(instructions::specs::Encoding::modification_of))]
 fn modification_of(bits: u8) -> Modification
     ensures { result ≡ modification_of bits }

@@ -7,17 +7,11 @@ use Rattle.operands.specs.declared.Address.TheVariants as Mode
 use Rattle.instructions.specs.declared.Instruction.{Instruction}
 use Rattle.instructions.specs.declared.Instruction.TheVariants as Family
 use Rattle.instructions.specs.declared.Accumulator.{Accumulator}
-use Rattle.instructions.specs.declared.Accumulator.TheVariants as Accumulator
 use Rattle.instructions.specs.declared.Multiplier.{Multiplier}
-use Rattle.instructions.specs.declared.Multiplier.TheVariants as Multiplier
 use Rattle.instructions.specs.declared.Auxiliary.{Auxiliary}
-use Rattle.instructions.specs.declared.Auxiliary.TheVariants as Auxiliary
 use Rattle.instructions.specs.declared.Branches.{Branches}
-use Rattle.instructions.specs.declared.Branches.TheVariants as Branches
 use Rattle.instructions.specs.declared.Transfers.{Transfers}
-use Rattle.instructions.specs.declared.Transfers.TheVariants as Transfers
 use Rattle.instructions.specs.declared.Modes.{Modes}
-use Rattle.instructions.specs.declared.Modes.TheVariants as Modes
 use Rattle.pages.specs.declared.Access.TheVariants as Access
 use Rattle.pages.specs.declared.Port.TheVariants as Port
 use Rattle.pages.specs.declared.Traits.{Traits}
