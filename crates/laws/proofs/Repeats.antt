@@ -1,5 +1,5 @@
 -- What every pass of a repeatable instruction does: proofs.
-use Rattle.std.specs.Prelude.{◌≡◌, Bool, false, cond, ◌&&◌, List, ℕ, suc, ◌-◌, ◌≤◌, ltb, length, None}
+use Rattle.std.specs.Prelude.{◌≡◌, Bool, false, cond, ◌&&◌, List, ℕ, suc, ◌-◌, ◌≤◌, ltb, length, None, Option, Some}
 use Rattle.std.proofs.Math.Path.{refl, sym, ap}
 use Rattle.std.proofs.Common.{◌∙◌, arith, lt-ltb}
 use Rattle.std.proofs.Math.Bool.{true, not}
@@ -30,12 +30,10 @@ use Rattle.pages.specs.AuxiliaryPages.{LAR, SAR, LARK, MAR, ADRK, SBRK, LDP, LDP
 use Rattle.pages.specs.ModesPages.{SOVM, ROVM, SSXM, RSXM, CNFD, CNFP, RPT, RPTK, PUSH, POP}
 use Rattle.pages.specs.TransfersPages.{DMOV, IN, OUT}
 use Rattle.instructions.specs.declared.Decoded.TheVariants.{Built}
-use Rattle.operands.specs.declared.NextArp.{NextArp}
-use Rattle.operands.specs.declared.NextArp.TheVariants.{Same, To}
+use Rattle.operands.specs.declared.Address.{Address}
 use Rattle.operands.specs.declared.Address.TheVariants as Mode
 use Rattle.pages.specs.declared.Effect.{Effect}
 use Rattle.pages.specs.Passes.{destination, followed}
-use Rattle.pages.specs.declared.Operand.{Operand}
 use Rattle.pages.specs.declared.Traits.{Traits}
 use Rattle.pages.specs.Traits.{accumulator_traits, multiplier_traits, auxiliary_traits, branches_traits, transfers_traits, modes_traits, traits_of}
 use Rattle.pages.specs.Addressing.{pointed, modified, addressed, address_of}
@@ -175,22 +173,22 @@ rule_counted (Family.Modes i) before m words n pc h = modes_counted i m words.op
 
 -- ---- operands and words read
 
-pointed_counted : (next : NextArp) (m : Machine) (n pc : ℕ) → pointed next (counted_at m n pc) ≡ counted_at (pointed next m) n pc
+pointed_counted : (next : Option ℕ) (m : Machine) (n pc : ℕ) → pointed next (counted_at m n pc) ≡ counted_at (pointed next m) n pc
 unfolding pointed
-pointed_counted Same m n pc = refl
-pointed_counted (To arp) m n pc = refl
+pointed_counted None m n pc = refl
+pointed_counted (Some arp) m n pc = refl
 
-addressed_counted : (o : Operand) (m : Machine) (n pc : ℕ) → addressed o (counted_at m n pc) ≡ counted_at (addressed o m) n pc
+addressed_counted : (o : Option Address) (m : Machine) (n pc : ℕ) → addressed o (counted_at m n pc) ≡ counted_at (addressed o m) n pc
 unfolding addressed modified
-addressed_counted Operand.Nothing m n pc = refl
-addressed_counted (Operand.At (Mode.Direct offset)) m n pc = refl
-addressed_counted (Operand.At (Mode.Indirect operand)) m n pc = pointed_counted operand.next _ n pc
+addressed_counted None m n pc = refl
+addressed_counted (Some (Mode.Direct offset)) m n pc = refl
+addressed_counted (Some (Mode.Indirect operand)) m n pc = pointed_counted operand.next _ n pc
 
-address_counted : (o : Operand) (m : Machine) (n pc : ℕ) → address_of o (counted_at m n pc) ≡ address_of o m
+address_counted : (o : Option Address) (m : Machine) (n pc : ℕ) → address_of o (counted_at m n pc) ≡ address_of o m
 unfolding address_of
-address_counted Operand.Nothing m n pc = refl
-address_counted (Operand.At (Mode.Direct offset)) m n pc = refl
-address_counted (Operand.At (Mode.Indirect operand)) m n pc = refl
+address_counted None m n pc = refl
+address_counted (Some (Mode.Direct offset)) m n pc = refl
+address_counted (Some (Mode.Indirect operand)) m n pc = refl
 
 found_counted : (t : Traits) («data» : List ℕ) (m : Machine) (n pc : ℕ) → found_for t «data» (counted_at m n pc) ≡ found_for t «data» m
 unfolding found_for

@@ -4,29 +4,22 @@
 use machine::Machine;
 use operands::Address;
 
-// What an instruction's address field asks for.
-#[derive(Clone, Copy)]
-pub enum Operand {
-    Nothing,
-    At(Address),
-}
-
 // Whether the addressed data word is read, written, or not touched.
-#[derive(Clone, Copy)]
+#[derive(Clone, Copy, Debug, PartialEq, Eq)]
 pub enum Access {
     None,
     Reads,
     Writes,
 }
 
-#[derive(Clone, Copy)]
+#[derive(Clone, Copy, Debug, PartialEq, Eq)]
 pub enum Port {
     None,
     Input(u8),
     Output(u8),
 }
 
-#[derive(Clone, Copy)]
+#[derive(Clone, Copy, Debug, PartialEq, Eq)]
 pub struct Traits {
     pub words: u16,
     pub port: Port,
@@ -34,7 +27,8 @@ pub struct Traits {
     pub access: Access,
     // A MAC or MACD reads a program word besides.
     pub table: bool,
-    pub operand: Operand,
+    // What the address field asks for; None where there is none.
+    pub operand: Option<Address>,
 }
 
 // The words that a pass reads. What the instruction does not use is not looked at.
