@@ -1,6 +1,6 @@
 -- Laws of a file's tests, of its length, and of what it reads as.
-use Rattle.std.specs.Prelude.{◌≡◌, Bool, List, ℕ, length, Ok, Err}
-use Rattle.std.specs.Result.{MatchResult}
+use Rattle.std.specs.Prelude.{◌≡◌, Bool, List, ℕ, length, Result, Ok, Err}
+use Rattle.std.specs.Result.{MatchResult, is_ok}
 use Rattle.std.proofs.Math.Path.{refl}
 use Rattle.std.proofs.Common.{sym, ap, ◌∙◌, arith, length-append}
 use Rattle.std.proofs.Math.Bool.{true, false}
@@ -9,6 +9,7 @@ use Rattle.std.proofs.Math.Dec.{ltb, eqb}
 use borrow.Author.Tests.{leb-true, le-leb, eqb-true, eq-eqb, ltb-false, le-ltb}
 use Rattle.basic_laws.specs.Tests.{both_hold}
 use Rattle.answers.specs.Answers.{Answer, Done}
+use Rattle.answers.specs.declared.Refusal.{Refusal}
 use Rattle.answers.specs.Numbers.{is_done}
 use Rattle.runfile.specs.declared.numbers.EightNumbers.{EightNumbers}
 use Rattle.runfile.specs.declared.reading.Head.{Head}
@@ -53,6 +54,24 @@ module _ (n : EightNumbers) (bytes_count : ℕ) where
         eq-eqb _ _ r.input_starts,
         eq-eqb _ _ r.file_ends,
       )
+
+-- what stands under an Ok, and under an Err
+abbrev value_in : {T : Type 0} → T → Result T Refusal → T
+value_in other (Ok value) = value
+value_in other (Err refusal) = other
+
+abbrev refusal_in : {T : Type 0} → Refusal → Result T Refusal → Refusal
+refusal_in other (Ok value) = other
+refusal_in other (Err refusal) = refusal
+
+-- a value that is given where an answer is done, and what is given where it is a refusal
+pub given_done : {T : Type 0} (a : Answer) (value : T) {found : T} → where_done a value ≡ Ok found → (is_done a ≡ true) × (found ≡ value)
+given_done (Ok _) value e = (refl, sym (ap (value_in value) e))
+given_done (Err refusal) value e = absurd (false≢true (ap is_ok e))
+
+pub given_refused : {T : Type 0} (a : Answer) (value : T) {refusal : Refusal} → where_done a value ≡ Err refusal → a ≡ Err refusal
+given_refused (Ok _) value e = absurd (false≢true (sym (ap is_ok e)))
+given_refused (Err other) value {refusal} e = ap (λ (r : Refusal). Err r) (ap (refusal_in refusal) e)
 
 -- "A refused file" has no counts
 abbrev no_head : Head
@@ -107,7 +126,7 @@ module _ (bytes : List ℕ) where
       by : (a : Answer) → read_answer bytes ≡ a
           → MatchResult (where_done a (numbers_of bytes)) (λ n. head ≡ counts_of n) (λ _. head ≡ no_head)
           → head ≡ head_of (read_contents bytes)
-      by (Ok tt) e h = h ∙ sym (head_read (ap is_done e))
+      by (Ok _) e h = h ∙ sym (head_read (ap is_done e))
       by (Err refusal) e h = h ∙ sym (head_refused (ap is_done e))
 
 -- how long the file of some contents is
