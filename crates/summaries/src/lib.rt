@@ -4,7 +4,7 @@
 ghost use Rattle.std.specs.Prelude.{◌≡◌, ◌+◌, min};
 ghost use Rattle.steps.specs.Summary.{summary_fits, summary_answer, reset_summary, word_counted, store_counted};
 
-use answers::Answer;
+use answers::{Answer, Refusal};
 use steps::Write;
 
 // The numbers of a summary.
@@ -24,6 +24,7 @@ pub fn summary_fits(summary: &[u16]) -> bool
 }
 
 // A fresh summary, whatever it held. A slice of another length is refused and left as it is.
+#[tactic(auto, unfolding(steps::specs::Summary::summary_answer, steps::specs::Summary::reset_summary, steps::specs::Summary::summary_fits))]
 pub fn reset_summary(summary: &mut [u16]) -> Answer
     ensures answered { result ≡ summary_answer summary.old }
     ensures fresh { summary.new ≡ reset_summary summary.old }
@@ -31,7 +32,7 @@ pub fn reset_summary(summary: &mut [u16]) -> Answer
     if !summary_fits(summary) {
         return Err(Refusal::SummaryUnfit);
     }
-    slices::clear(summary);
+    summary.fill(0);
     Ok(())
 }
 
