@@ -3,6 +3,7 @@ use Rattle.runfile.proofs.numbers.word_at.Reads as WordAt
 use Rattle.runfile.proofs.numbers.numbers_of.Reads as NumbersOf
 use Rattle.runfile.proofs.numbers.counts_kept.Reads as CountsKept
 use Rattle.runfile.proofs.numbers.rules_kept.Reads as RulesKept
+use Rattle.runfile.proofs.reading.read.Reads as Read
 use Rattle.runfile.proofs.reading.read_answer.Reads as ReadAnswer
 use Rattle.runfile.proofs.reading.head_of.Reads as HeadOf
 use Rattle.runfile_setting_up.proofs.set_up_answer.Reads as SetUpAnswer
@@ -11,7 +12,7 @@ use Rattle.runfile_writing.proofs.file_length.Reads as FileLength
 use Rattle.runfile_writing.proofs.write_file.Reads as WriteFile
 use Rattle.line_digits.proofs.digit.Reads as Digit
 use Rattle.line_digits.proofs.decimal_length.Reads as DecimalLength
-use Rattle.line_fields.proofs.fitting.fit_line.Reads as FitLine
+use Rattle.line_fields.proofs.fitting.Fields.fit_line.Reads as FitLine
 use Rattle.line_fields.proofs.fitting.fit_number.Reads as FitNumber
 use Rattle.line.proofs.run_line.Reads as RunLine
 use Rattle.line.proofs.refused_line.Reads as RefusedLine
@@ -29,6 +30,9 @@ counts_kept κs a r r' e e' p q = same p q
 
 pub rules_kept : OneResult RulesKept.Post
 rules_kept κs a r r' e e' p q = same p q
+
+pub read : OneResult Read.Post
+read κs a r r' e e' p q = same p q
 
 pub read_answer : OneResult ReadAnswer.Post
 read_answer κs a r r' e e' p q = same p q
@@ -54,7 +58,7 @@ digit κs a r r' e e' p q = same p q
 pub decimal_length : OneResult DecimalLength.Post
 decimal_length κs a r r' e e' p q = same p q
 
-pub fit_line : OneOutcome FitLine.Post (λ r e. pair r e.0.now)
+pub fit_line : OneOutcome FitLine.Post (λ r e. pair r e.1.0.now)
 fit_line κs a r r' e e' p q = same_pair (same p.0 q.0) (same p.1 q.1)
 
 pub fit_number : OneOutcome FitNumber.Post (λ r e. pair r e.0.now)

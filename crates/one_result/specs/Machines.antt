@@ -41,7 +41,6 @@ use Rattle.slices.proofs.slices_fit.Reads as SlicesFit
 use Rattle.slices.proofs.part.Reads as Part
 use Rattle.slices.proofs.input_word.Reads as InputWord
 use Rattle.slices.proofs.store_at.Reads as StoreAt
-use Rattle.slices.proofs.clear.Reads as Clear
 use Rattle.slices.proofs.store_word.Reads as SlicesStoreWord
 use Rattle.windows.proofs.region_window.Reads as RegionWindow
 use Rattle.windows.proofs.window_answer.Reads as WindowAnswer
@@ -175,9 +174,6 @@ input_word κs a r r' e e' p q = same p q
 
 pub store_at : OneOutcome StoreAt.Post (λ r e. e.0.now)
 store_at κs a r r' e e' p q = same p q
-
-pub clear : OneOutcome Clear.Post (λ r e. e.0.now)
-clear κs a r r' e e' p q = same p q
 
 pub slices_store_word : OneOutcome SlicesStoreWord.Post (λ r e. e.0.now)
 slices_store_word κs a r r' e e' p q = same p q
