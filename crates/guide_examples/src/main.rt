@@ -5,6 +5,8 @@
 // the value as its budget, W does so by the call with results, P prints its label and the place in hexadecimal, E ends the case.
 #![tactic(auto)]
 
+ghost use Rattle.std.specs.Prelude.{◌<◌};
+
 use desktop::running::{crowmitten_reset, crowmitten_run, crowmitten_run_with, crowmitten_step};
 use desktop::{CELLS, RESULTS};
 use filling::fill;
@@ -63,8 +65,10 @@ impl From<&[u8; 32]> for Line {
     }
 }
 
-// A byte that is no hexadecimal digit counts as some digit: every line is read.
-fn digit(byte: u8) -> u32 {
+// By hand, since what is no hexadecimal digit counts as some digit: every line is read.
+fn digit(byte: u8) -> u32
+    ensures { result < 16 }
+{
     let low = u32::from(byte % 16);
     if byte < 58 { low } else { (low + 9) % 16 }
 }
@@ -73,7 +77,7 @@ fn digit(byte: u8) -> u32 {
 fn number(digits: &[u8]) -> u32 {
     digits
         .iter()
-        .fold(0, |n, &byte| n % 0x10000000 * 16 + digit(byte) % 16)
+        .fold(0, |n, &byte| n % 0x10000000 * 16 + digit(byte))
 }
 
 fn low_word(value: u32) -> u16 {
