@@ -1,7 +1,6 @@
 -- Not routine: what the loop keeps is that the steps done and the run still to come make up the whole run, and that checks 1 and 2 still hold.
 use mathlib.Core.Path.{sym, refl, ◌∙◌}
 use native.Mathlib.Omega.{arith}
-use Rattle.emulator.specs.Outcomes.{stepped}
 use Rattle.emulator.specs.RunLaws.{refusing, none_refused, refused_run, refused_counts, refused_stores, words_fit, going_begins, going_checks, counted_fits, kept_begins, kept_on, kept_stops, kept_ends}
 use Rattle.emulator.proofs.run_counted.Goals as goal
 

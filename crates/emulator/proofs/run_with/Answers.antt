@@ -1,5 +1,4 @@
 use mathlib.Core.Path.{sym, ◌∙◌}
-use Rattle.answers.proofs.NumberLaws.{zero_done}
 use Rattle.steps.proofs.SummaryLaws.{refused_run, refused_outside, refused_summary, begun_run, begun_outside, begun_summary}
 use Rattle.std.proofs.Common.{ap}
 use Rattle.answers.specs.Numbers.{is_done}

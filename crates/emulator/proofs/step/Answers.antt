@@ -1,6 +1,4 @@
 -- Not routine: a run with budget 1 ends with checks 1 and 2 of the world after the step, and those hold, so that its answer is the step's.
-use mathlib.Core.Path.{◌∙◌}
-use Rattle.std.proofs.Common.{ap}
 use Rattle.answers.proofs.NumberLaws.{done_is}
 use Rattle.emulator.specs.RunLaws.{words_fit, going_begins, done_step, refused_once, passed_on}
 use Rattle.emulator.proofs.step.Goals as goal
