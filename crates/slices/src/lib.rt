@@ -5,6 +5,7 @@ ghost use Rattle.std.specs.Prelude.{◌≡◌, get_or, set};
 ghost use Rattle.std.proofs.Math.Seq.{slice};
 ghost use Rattle.board.specs.Slices.{memories_fit, port_fits, port_spent, slices_fit, part_start, data_page_stored};
 
+use board::Lent;
 use machine::Machine;
 
 const MEMORY_WORDS: usize = 4096;
@@ -35,18 +36,13 @@ pub fn port_spent(size: usize, cursor: u16) -> bool
 }
 
 // Check 2 of a step or a run.
-pub fn slices_fit(
-    m: Machine,
-    rom: &[u16],
-    data: &[u16],
-    input: &[u16],
-    output_length: usize,
-) -> bool
-    ensures { result ≡ slices_fit m rom.now «data».now input.now output_length }
+#[tactic(auto, unfolding(board::specs::Slices::slices_fit))]
+pub fn slices_fit(m: Machine, lent: &Lent<'_>) -> bool
+    ensures { result ≡ slices_fit m lent.now.given.rom lent.now.«data» lent.now.given.input lent.now.output_length }
 {
-    let memories = memories_fit(rom, data);
-    let reads = port_fits(input.len(), m.input_cursor);
-    let sends = port_fits(output_length, m.output_cursor);
+    let memories = memories_fit(lent.rom(), lent.data());
+    let reads = port_fits(lent.input().len(), m.input_cursor);
+    let sends = port_fits(lent.output_length(), m.output_cursor);
     memories & reads & sends
 }
 

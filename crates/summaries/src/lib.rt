@@ -17,6 +17,7 @@ const DATA_PAGE_WORDS: u32 = 128;
 
 const DATA_WORDS: u32 = 4096;
 
+#[tactic(auto, unfolding(steps::specs::Summary::summary_fits))]
 pub fn summary_fits(summary: &[u16]) -> bool
     ensures { result ≡ summary_fits summary.now }
 {
@@ -45,6 +46,7 @@ fn one_more(count: u16) -> u16
 
 // The two numbers of a page. Whether both places are there is asked once, of the summary's length and the address: asked of each place by itself it takes
 // more instructions, also of steps that store nothing (docs/PERFORMANCE.md).
+#[tactic(auto, unfolding(steps::specs::Summary::word_counted, steps::specs::Summary::page_counted, steps::specs::Summary::counted_at, steps::specs::Summary::summary_fits))]
 fn count_word(summary: &mut [u16], address: u32, ov: u8)
     ensures { summary.new ≡ word_counted address ov summary.old }
 {
@@ -58,6 +60,7 @@ fn count_word(summary: &mut [u16], address: u32, ov: u8)
 }
 
 // What a step's store adds, with OV as the step leaves it.
+#[tactic(auto, unfolding(steps::specs::Summary::store_counted))]
 pub fn count_store(summary: &mut [u16], write: Write, ov: u8)
     ensures { summary.new ≡ store_counted write ov summary.old }
 {
