@@ -3,7 +3,7 @@
 
 ghost use Rattle.std.specs.Prelude.{◌≡◌, true, ◌++◌, ◌≤◌, length, take, drop};
 ghost use Rattle.answers.specs.Numbers.{is_done};
-ghost use Rattle.runfile.specs.Files.{read_answer, read_contents};
+ghost use Rattle.runfile.specs.Files.{read_answer, read_contents, head_of};
 ghost use Rattle.line_fields.specs.Placing.{line_in, length_in};
 ghost use Rattle.replay_line.specs.Longest.{longest_line};
 ghost use Rattle.replay_line.specs.Replay.{replay_line};
@@ -12,10 +12,14 @@ ghost use Rattle.replaying.specs.Facts.{FreshSlices};
 use emulator::run;
 use line::{refused_line, run_line};
 use machine::Machine;
-use runfile::reading::{head_of, read_answer};
+use runfile::reading::{Head, read};
 use runfile_setting_up::set_up;
 
-const FILE_BYTES: usize = 16401;
+// As many first bytes of a file decide its line, one more than the largest file has (`cut_replay`).
+pub const FILE_BYTES: usize = 16401;
+
+// As many bytes hold every line (`line_within`).
+pub const LINE_BYTES: usize = 5145;
 
 // An accepted file, set up in fresh slices and run from reset: its line.
 fn replay_in(
@@ -32,20 +36,19 @@ fn replay_in(
     requires fresh_slices { FreshSlices bytes.now rom.old «data».old input.old output.old }
     ensures { (result ≡ length_in (replay_line bytes.now) line.old) × (line.new ≡ line_in (replay_line bytes.now) line.old) }
 {
-    set_up(bytes, rom, data, input);
+    // it cannot refuse: these slices fit an accepted file
+    let _ = set_up(bytes, rom, data, input);
     let ran = run(Machine::reset(), rom, data, input, output, budget);
-    let m = ran.m;
-    let answer = ran.answer;
-    run_line(m, answer, ran.steps, output, line)
+    run_line(ran.m, ran.answer, ran.steps, output, line)
 }
 
 // An accepted file, with memories and ports of its own.
-fn replay_accepted(bytes: &[u8], line: &mut [u8]) -> usize
-    requires { is_done (read_answer bytes.now) ≡ true }
+fn replay_accepted(bytes: &[u8], head: Head, line: &mut [u8]) -> usize
+    requires accepted { is_done (read_answer bytes.now) ≡ true }
+    requires counts { head ≡ head_of (read_contents bytes.now) }
     ensures { (result ≡ length_in (replay_line bytes.now) line.old) × (line.new ≡ line_in (replay_line bytes.now) line.old) }
 {
-    let head = head_of(bytes);
-    let count = head.input_count as usize;
+    let count = usize::from(head.input_count);
     let mut rom = [0; 4096];
     let mut data = [0; 4096];
     let mut input = [0; 1024];
@@ -66,22 +69,16 @@ fn put_line(bytes: &[u8], line: &mut [u8]) -> usize
     requires { longest_line ≤ length line.old }
     ensures { (result ≡ length (replay_line bytes.now)) × (line.new ≡ replay_line bytes.now ++ drop (length (replay_line bytes.now)) line.old) }
 {
-    let answer = read_answer(bytes);
-    if answer.is_ok() {
-        replay_accepted(bytes, line)
-    } else {
-        refused_line(answer, line)
+    match read(bytes) {
+        Ok(numbers) => replay_accepted(bytes, Head::from(numbers), line),
+        Err(refusal) => refused_line(Err(refusal), line),
     }
 }
 
 // What `replay` prints of the file whose first bytes these are, `count` of them read: the line, and its length. The sizes are in the types, so
-// that no program can lend less: 16,401 bytes decide the line of every file (`cut_replay`), and 5,145 hold every line (`line_within`).
-pub fn replayed(file: &[u8; 16401], count: usize, line: &mut [u8; 5145]) -> usize
+// that no program can lend less.
+pub fn replayed(file: &[u8; FILE_BYTES], count: usize, line: &mut [u8; LINE_BYTES]) -> usize
     ensures { (result ≡ length (replay_line (take count file.now))) × (line.new ≡ replay_line (take count file.now) ++ drop (length (replay_line (take count file.now))) line.old) }
 {
-    let bytes: &[u8] = file;
-    if count < FILE_BYTES {
-        return put_line(&bytes[..count], line);
-    }
-    put_line(bytes, line)
+    put_line(&file[..count.min(FILE_BYTES)], line)
 }

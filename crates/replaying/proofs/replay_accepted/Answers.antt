@@ -8,14 +8,14 @@ use native.Mathlib.Omega.{arith}
 use Rattle.replaying.proofs.replay_accepted.Goals as goal
 
 pub slice_bounds-input-end : goal.slice_bounds-input-end
-slice_bounds-input-end c = let most = input_most _ _ c.requires c.head_of-head.ensures in omega (arith, length-replicate {A = ℕ} 1024 0)
+slice_bounds-input-end c = let most = input_most _ _ c.requires.accepted c.requires.counts in omega (arith, length-replicate {A = ℕ} 1024 0)
 
 pub slice_bounds-replay_in-end-3 : goal.slice_bounds-replay_in-end-3
-slice_bounds-replay_in-end-3 c = let most = input_most _ _ c.requires c.head_of-head.ensures in sym (length-take-le _ _ (omega (arith, length-replicate {A = ℕ} 1024 0)))
+slice_bounds-replay_in-end-3 c = let most = input_most _ _ c.requires.accepted c.requires.counts in sym (length-take-le _ _ (omega (arith, length-replicate {A = ℕ} 1024 0)))
 
 pub replay_in-requires : goal.replay_in-requires
 replay_in-requires c = record {
-  bytes_value = c.requires;
-  budget_value = budget_read _ _ c.requires c.head_of-head.ensures;
-  fresh_slices = fresh _ _ c.requires c.head_of-head.ensures _ _ _ _ (sym (length-replicate {A = ℕ} 4096 0)) (sym (length-replicate {A = ℕ} 4096 0)) (sym (length-replicate {A = ℕ} 1024 0)) refl;
+  bytes_value = c.requires.accepted;
+  budget_value = budget_read _ _ c.requires.accepted c.requires.counts;
+  fresh_slices = rw c.from-count.ensures (fresh _ _ c.requires.accepted c.requires.counts _ _ _ _ (sym (length-replicate {A = ℕ} 4096 0)) (sym (length-replicate {A = ℕ} 4096 0)) (sym (length-replicate {A = ℕ} 1024 0)) refl);
 }
