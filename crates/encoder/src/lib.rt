@@ -62,7 +62,7 @@ fn multiplier_word(x: Multiplier) -> u16
         Multiplier::Spac => 0xCE16,
         Multiplier::Spl(a) => addressed(0x7C, a),
         Multiplier::Sph(a) => addressed(0x7D, a),
-        Multiplier::Spm(k) => 0xCE08 + (k % 4) as u16,
+        Multiplier::Spm(k) => 0xCE08 + u16::from(k % 4),
     }
 }
 

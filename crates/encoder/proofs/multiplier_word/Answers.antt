@@ -79,4 +79,4 @@ returns-in-Sph c = by_case (λ y. word_of (multiplier_fields y)) c.in-Sph.is (of
 
 pub returns-in-Spm : goal.returns-in-Spm
 unfolding word_of multiplier_fields
-returns-in-Spm c = by_case (λ y. word_of (multiplier_fields y)) c.in-Spm.is (sym (field_after_lem _ 0x3382 2))
+returns-in-Spm c = by_case (λ y. word_of (multiplier_fields y)) c.in-Spm.is (rw c.from.ensures (sym (field_after_lem c.in-Spm.k 0x3382 2)))
