@@ -49,12 +49,14 @@ const LIMITS: [u32; CELLS] = [
     Machine::CURSOR_MAX as u32,
 ];
 
-// The limits once, and not in every turn of a loop, which would build the table anew.
-// Each of the cells is at most its limit.
+// Each of the cells is at most its limit. Gathered by &, and not by `all`, which makes a branch for each cell: 90 instructions in place of 83.
 fn within_limits(cells: &[u32; CELLS]) -> bool
     ensures { result ≡ within_limits cell_count cells.now }
 {
-    cells.iter().zip(&LIMITS).all(|(cell, limit)| cell <= limit)
+    cells
+        .iter()
+        .zip(&LIMITS)
+        .fold(true, |kept, (cell, limit)| kept & (cell <= limit))
 }
 
 // Whether a slice has as many cells as there are: 0 or 2.
