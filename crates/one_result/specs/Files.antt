@@ -3,6 +3,7 @@ use Rattle.runfile.proofs.numbers.word_at.Reads as WordAt
 use Rattle.runfile.proofs.numbers.numbers_of.Reads as NumbersOf
 use Rattle.runfile.proofs.numbers.counts_kept.Reads as CountsKept
 use Rattle.runfile.proofs.numbers.rules_kept.Reads as RulesKept
+use Rattle.runfile.proofs.reading.read.Reads as Read
 use Rattle.runfile.proofs.reading.read_answer.Reads as ReadAnswer
 use Rattle.runfile.proofs.reading.head_of.Reads as HeadOf
 use Rattle.runfile_setting_up.proofs.set_up_answer.Reads as SetUpAnswer
@@ -29,6 +30,9 @@ counts_kept κs a r r' e e' p q = same p q
 
 pub rules_kept : OneResult RulesKept.Post
 rules_kept κs a r r' e e' p q = same p q
+
+pub read : OneResult Read.Post
+read κs a r r' e e' p q = same p q
 
 pub read_answer : OneResult ReadAnswer.Post
 read_answer κs a r r' e e' p q = same p q

@@ -1,23 +1,21 @@
 -- Laws of a file's tests, of its length, and of what it reads as.
-use Rattle.std.specs.Prelude.{◌≡◌, Bool, List, ℕ, length}
+use Rattle.std.specs.Prelude.{◌≡◌, Bool, List, ℕ, length, Result, Ok, Err}
+use Rattle.std.specs.Result.{MatchResult, is_ok}
 use Rattle.std.proofs.Math.Path.{refl}
-use Rattle.std.proofs.Common.{◌∙◌, arith, length-append}
+use Rattle.std.proofs.Common.{sym, ap, ◌∙◌, arith, length-append}
 use Rattle.std.proofs.Math.Bool.{true, false}
 use Rattle.std.proofs.lemmas.Bool.{false≢true}
 use Rattle.std.proofs.Math.Dec.{ltb, eqb}
 use borrow.Author.Tests.{leb-true, le-leb, eqb-true, eq-eqb, ltb-false, le-ltb}
 use Rattle.basic_laws.specs.Tests.{both_hold}
-use Rattle.answers.specs.Answers.{Done}
+use Rattle.answers.specs.Answers.{Answer, Done}
+use Rattle.answers.specs.declared.Refusal.{Refusal}
 use Rattle.answers.specs.Numbers.{is_done}
 use Rattle.runfile.specs.declared.numbers.EightNumbers.{EightNumbers}
 use Rattle.runfile.specs.declared.reading.Head.{Head}
-use Rattle.runfile.specs.Files.{Contents, head_words, file_of, file_length, counts_kept, numbers_of, rules_kept, read_answer, read_contents, sections_of, no_contents, head_of}
+use Rattle.runfile.specs.Files.{Contents, head_words, file_of, file_length, counts_kept, numbers_of, rules_kept, read_answer, read_contents, sections_of, no_contents, where_done, counts_of, head_of}
 use Rattle.runfile.specs.Facts.{CountsKept, RulesKept, Accepted}
 use Rattle.runfile.specs.WordLaws.{bytes_length, words_length}
-
--- the counts and the budget among the eight numbers
-abbrev counts_of : EightNumbers → Head
-counts_of n = record { program_count = n.program_count; data_count = n.data_count; input_count = n.input_count; budget = n.budget }
 
 pub counts_facts : (p d i : ℕ) → counts_kept p d i ≡ true → CountsKept p d i
 unfolding counts_kept
@@ -57,6 +55,28 @@ module _ (n : EightNumbers) (bytes_count : ℕ) where
         eq-eqb _ _ r.file_ends,
       )
 
+-- what stands under an Ok, and under an Err
+abbrev value_in : {T : Type 0} → T → Result T Refusal → T
+value_in other (Ok value) = value
+value_in other (Err refusal) = other
+
+abbrev refusal_in : {T : Type 0} → Refusal → Result T Refusal → Refusal
+refusal_in other (Ok value) = other
+refusal_in other (Err refusal) = refusal
+
+-- a value that is given where an answer is done, and what is given where it is a refusal
+pub given_done : {T : Type 0} (a : Answer) (value : T) {found : T} → where_done a value ≡ Ok found → (is_done a ≡ true) × (found ≡ value)
+given_done (Ok _) value e = (refl, sym (ap (value_in value) e))
+given_done (Err refusal) value e = absurd (false≢true (ap is_ok e))
+
+pub given_refused : {T : Type 0} (a : Answer) (value : T) {refusal : Refusal} → where_done a value ≡ Err refusal → a ≡ Err refusal
+given_refused (Ok _) value e = absurd (false≢true (sym (ap is_ok e)))
+given_refused (Err other) value {refusal} e = ap (λ (r : Refusal). Err r) (ap (refusal_in refusal) e)
+
+-- "A refused file" has no counts
+abbrev no_head : Head
+no_head = record { program_count = 0; data_count = 0; input_count = 0; budget = 0 }
+
 module _ (bytes : List ℕ) where
   pub accepted : is_done (read_answer bytes) ≡ true → Accepted bytes
   unfolding read_answer
@@ -94,9 +114,20 @@ module _ (bytes : List ℕ) where
   unfolding head_of sections_of
   head_read h = rw (read_done h) (simp words_length)
 
-  pub head_refused : is_done (read_answer bytes) ≡ false → head_of (read_contents bytes) ≡ record { program_count = 0; data_count = 0; input_count = 0; budget = 0 }
+  pub head_refused : is_done (read_answer bytes) ≡ false → head_of (read_contents bytes) ≡ no_head
   unfolding head_of
   head_refused h = rw (read_refused h)
+
+  -- the counts and the budget where the numbers are given, and where they are refused
+  pub head_given : (head : Head) → MatchResult (where_done (read_answer bytes) (numbers_of bytes)) (λ n. head ≡ counts_of n) (λ _. head ≡ no_head)
+      → head ≡ head_of (read_contents bytes)
+  head_given head = by (read_answer bytes) refl
+    where
+      by : (a : Answer) → read_answer bytes ≡ a
+          → MatchResult (where_done a (numbers_of bytes)) (λ n. head ≡ counts_of n) (λ _. head ≡ no_head)
+          → head ≡ head_of (read_contents bytes)
+      by (Ok _) e h = h ∙ sym (head_read (ap is_done e))
+      by (Err refusal) e h = h ∙ sym (head_refused (ap is_done e))
 
 -- how long the file of some contents is
 pub file_length_lem : (c : Contents) → length (file_of c) ≡ file_length (length c.program) (length c.data_words) (length c.input)

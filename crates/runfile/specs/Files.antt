@@ -1,6 +1,8 @@
 -- The run file: its contents, its bytes, and what reading it gives (document 01, "The run file and its one line").
 use Rattle.std.specs.Prelude.{Bool, cond, ◌&&◌, List, [], ◌∷◌, ◌++◌, ℕ, zero, suc, ◌+◌, ◌*◌, ◌/◌, ◌%◌, ltb, leb, eqb, length, get_or}
+use Rattle.std.specs.Prelude.{Result, Ok, Err}
 use Rattle.answers.specs.Answers.{Answer}
+use Rattle.answers.specs.declared.Refusal.{Refusal}
 use Rattle.answers.specs.Answers.{Done, FileShort, FileVersion, FileRules}
 use Rattle.answers.specs.Numbers.{is_done}
 use Rattle.runfile.specs.declared.numbers.EightNumbers.{EightNumbers}
@@ -89,6 +91,11 @@ read_answer bytes =
     FileRules)
     FileVersion)
 
+-- a value where the answer is done, and otherwise the refusal
+abbrev pub where_done : {T : Type 0} → Answer → T → Result T Refusal
+where_done (Ok _) value = Ok value
+where_done (Err refusal) value = Err refusal
+
 -- the three sections and the budget
 unfoldable pub sections_of : List ℕ → Contents
 sections_of bytes =
@@ -105,6 +112,10 @@ no_contents = record { program = []; data_words = []; input = []; budget = 0 }
 -- "A refused file reads as no contents"
 unfoldable pub read_contents : List ℕ → Contents
 read_contents bytes = cond (is_done (read_answer bytes)) (sections_of bytes) no_contents
+
+-- the counts and the budget among the eight numbers
+abbrev pub counts_of : EightNumbers → Head
+counts_of n = record { program_count = n.program_count; data_count = n.data_count; input_count = n.input_count; budget = n.budget }
 
 -- how many words each list has, and the budget
 unfoldable pub head_of : Contents → Head

@@ -1,5 +1,5 @@
 // The numbers that a run file begins with, and their rules.
-ghost use Rattle.std.specs.Prelude.{◌≡◌, ◌<◌, get_or};
+ghost use Rattle.std.specs.Prelude.{◌≡◌, get_or};
 ghost use Rattle.runfile.specs.Files.{word_at, numbers_of, counts_kept, rules_kept};
 
 pub const HEAD_BYTES: usize = 16;
@@ -13,7 +13,7 @@ const DATA_WORDS_MAX: usize = 3072;
 const INPUT_WORDS_MAX: usize = 1024;
 
 // The numbers that a file begins with, in their order.
-#[derive(Clone, Copy)]
+#[derive(Clone, Copy, Debug, PartialEq, Eq)]
 pub struct EightNumbers {
     pub version: u16,
     pub program_count: u16,
@@ -26,29 +26,23 @@ pub struct EightNumbers {
 }
 
 // A byte of a slice, 0 where there is none.
-fn byte_at(bytes: &[u8], at: usize) -> u16
-    ensures { (result ≡ get_or bytes.now at 0) × (result < 256) }
+fn byte_at(bytes: &[u8], at: usize) -> u8
+    ensures { result ≡ get_or bytes.now at 0 }
 {
-    if at < bytes.len() {
-        bytes[at] as u16
-    } else {
-        0
-    }
+    bytes.get(at).copied().unwrap_or(0)
 }
 
 // The little-endian word at a place; a byte that is not there counts as 0.
 pub fn word_at(bytes: &[u8], at: usize) -> u16
     ensures { result ≡ word_at bytes.now at }
 {
-    if bytes.len() <= at {
-        return 0;
-    }
     let low = byte_at(bytes, at);
-    let high = byte_at(bytes, at + 1);
-    low + 256 * high
+    let high = byte_at(bytes, at.saturating_add(1));
+    u16::from_le_bytes([low, high])
 }
 
 // The eight numbers at the start of some bytes.
+#[tactic(auto, unfolding(crate::specs::Files::numbers_of))]
 pub fn numbers_of(bytes: &[u8]) -> EightNumbers
     ensures { result ≡ numbers_of bytes.now }
 {
@@ -65,6 +59,7 @@ pub fn numbers_of(bytes: &[u8]) -> EightNumbers
 }
 
 // Each count is at most its limit.
+#[tactic(auto, unfolding(crate::specs::Files::counts_kept))]
 pub fn counts_kept(program_count: usize, data_count: usize, input_count: usize) -> bool
     ensures { result ≡ counts_kept program_count data_count input_count }
 {
@@ -74,15 +69,16 @@ pub fn counts_kept(program_count: usize, data_count: usize, input_count: usize) 
 }
 
 // The rules for a file's counts and offsets, and for its length.
+#[tactic(auto, unfolding(crate::specs::Files::rules_kept))]
 pub fn rules_kept(n: EightNumbers, length: usize) -> bool
     ensures { result ≡ rules_kept n length }
 {
-    let program_count = n.program_count as usize;
-    let program_offset = n.program_offset as usize;
-    let data_count = n.data_count as usize;
-    let data_offset = n.data_offset as usize;
-    let input_count = n.input_count as usize;
-    let input_offset = n.input_offset as usize;
+    let program_count = usize::from(n.program_count);
+    let program_offset = usize::from(n.program_offset);
+    let data_count = usize::from(n.data_count);
+    let data_offset = usize::from(n.data_offset);
+    let input_count = usize::from(n.input_count);
+    let input_offset = usize::from(n.input_offset);
     counts_kept(program_count, data_count, input_count)
         & (program_offset == HEAD_BYTES)
         & (data_offset == program_offset + 2 * program_count)

@@ -5,7 +5,7 @@ use Prim.Native.Nat.{ℕ, ◌+◌, ◌*◌, ◌≤◌, ◌<◌}
 use native.Mathlib.Omega.{arith}
 use native.Mathlib.Numerals.{add-one}
 use lib.ListN.{length, take, get_or}
-use lib.Seq.{sets, length-sets, take-suc, take-length, length-take-le}
+use lib.Seq.{sets, take-suc, length-take-le}
 use Rattle.runfile.specs.Files.{bytes_of}
 use Rattle.runfile.specs.WordLaws.{bytes_length, bytes_append}
 use Rattle.basic_laws.specs.Stores.{sets_append}
@@ -20,15 +20,7 @@ unfolding bytes_of
 put_none words at bytes₀ = record { reached = omega arith; so_far = refl }
 
 module _ {words : List ℕ} {at : ℕ} {bytes₀ bytes : List ℕ} {k : ℕ} (l : Put words at bytes₀ bytes k) where
-  pub put_length : length bytes ≡ length bytes₀
-  put_length = ap length l.so_far ∙ length-sets bytes₀ at (bytes_of (take k words))
-
   pub put_more : (last : List ℕ) → k < length words → last ≡ sets bytes (at + 2 * k) (bytes_of (get_or words k 0 ∷ [])) → Put words at bytes₀ last (k + 1)
   put_more last h e =
       let n : length (bytes_of (take k words)) ≡ 2 * k = bytes_length (take k words) ∙ ap (λ (m : ℕ). 2 * m) (length-take-le k words (omega arith)) in
       record { reached = omega arith; so_far = rw (add-one, take-suc words k 0, bytes_append, sets_append, n, ← l.so_far) e }
-
-  pub put_all : length words ≤ k → bytes ≡ sets bytes₀ at (bytes_of words)
-  put_all h =
-      let e : k ≡ length words = omega arith in
-      rw (e, take-length) at l.so_far

@@ -1,7 +1,8 @@
 -- Laws of writing: the file put down part by part, and what each answer leaves.
-use Rattle.std.specs.Prelude.{◌≡◌, Bool, List, [], ◌∷◌, ℕ, ◌+◌, ◌*◌, ◌≤◌, ◌<◌, set}
+use Rattle.std.specs.Prelude.{◌≡◌, Bool, List, [], ◌∷◌, ℕ, ◌+◌, ◌*◌, ◌≤◌, ◌<◌, ◌/◌, ◌%◌, set, get_or}
+use Rattle.std.specs.Int.{w16, to_le_bytes}
 use Rattle.std.proofs.Math.Path.{refl}
-use Rattle.std.proofs.Common.{ap, ◌∙◌, add-one}
+use Rattle.std.proofs.Common.{ap, ◌∙◌, add-one, arith}
 use Rattle.std.proofs.Math.Bool.{true, false}
 use Rattle.std.proofs.lemmas.Bool.{false≢true}
 use Rattle.std.proofs.Math.Dec.{leb}
@@ -10,14 +11,24 @@ use Rattle.std.proofs.lemmas.List.Edits.{sets}
 use borrow.Author.Tests.{leb-true, le-leb, lt-leb}
 use Rattle.answers.specs.Answers.{Done, FileRules, FileNoRoom}
 use Rattle.answers.specs.Numbers.{is_done}
-use Rattle.runfile.specs.Files.{Contents, bytes_of, head_words, file_of, contents_fit}
+use Rattle.runfile.specs.Files.{Contents, bytes_of, head_words, file_of, file_length, contents_fit}
+use Rattle.runfile.specs.Facts.{CountsKept}
+use Rattle.runfile.specs.FileLaws.{counts_facts, file_length_lem}
 use Rattle.runfile.specs.WordLaws.{bytes_length, bytes_append}
 use Rattle.basic_laws.specs.Stores.{sets_append, sets_front}
-use Rattle.runfile_writing.specs.Writing.{write_answer, written}
+use Rattle.runfile_writing.specs.Writing.{contents, write_answer, written}
 
 -- the two bytes of a word, one after the other
 pub word_put : (l : List ℕ) (at low high : ℕ) → set (set l at low) (at + 1) high ≡ sets l at (low ∷ high ∷ [])
 word_put l at low high = rw add-one
+
+-- the same of a word's bytes as std gives them
+pub word_stored : (l : List ℕ) (at word : ℕ) {bytes : List ℕ} → word < 65536 → bytes ≡ to_le_bytes w16 word
+    → set (set l at (get_or bytes 0 0)) (at + 1) (get_or bytes 1 0) ≡ sets l at (bytes_of (word ∷ []))
+unfolding bytes_of
+word_stored l at word h e =
+    let high : word / 256 % 256 ≡ word / 256 = omega arith in
+    rw (e, high) (word_put l at (word % 256) (word / 256))
 
 head_length : (c : Contents) → 0 + length (bytes_of (head_words c)) ≡ 16
 unfolding head_words bytes_of
@@ -69,3 +80,12 @@ module _ (c : Contents) (bytes : List ℕ) where
       by false w room r = absurd (false≢true (ap is_done (simp w at h)))
       by true w false r = absurd (false≢true (ap is_done (simp (w, r) at h)))
       by true w true r = (w, leb-true _ _ r)
+
+-- what the lists of contents within the limits are known by: their counts, and how long the file is
+module _ (program data_words input : List ℕ) (budget : ℕ) {c : Contents} (is : contents program data_words input budget ≡ c) (within : contents_fit c ≡ true) where
+  pub counts_within : CountsKept (length program) (length data_words) (length input)
+  unfolding contents_fit
+  counts_within = counts_facts _ _ _ (rw (← is) at within)
+
+  pub length_within : length (file_of c) ≡ file_length (length program) (length data_words) (length input)
+  length_within = rw (← is) (file_length_lem (contents program data_words input budget))

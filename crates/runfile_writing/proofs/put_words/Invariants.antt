@@ -1,10 +1,5 @@
 use Rattle.runfile_writing.proofs.Loops.{Put}
-use Prim.Native.Nat.{◌-◌}
-use lib.ListN.{length}
 use Rattle.runfile_writing.proofs.put_words.Given as goal
 
 abbrev pub invariant-loop-k : goal.invariant-loop-k
 invariant-loop-k l = Put l.words l.at l.initial.bytes l.bytes l.k
-
-abbrev pub decreases-loop-k : goal.decreases-loop-k
-decreases-loop-k l = length l.words - l.k
