@@ -11,8 +11,15 @@ use Rattle.board.specs.Windows.{window_answer, window_shown}
 use Rattle.board.specs.WindowLaws.{window_done}
 use Rattle.c_cells.specs.Cells.{machine_of}
 use Rattle.c_cells.specs.Checks.{cells_answer}
+use Rattle.c_window.specs.declared.window.Memory.{Memory}
+use Rattle.c_window.specs.declared.window.Memory.TheVariants.{Program, Data}
 use Rattle.c_window.specs.declared.window.Place
-use Rattle.c_window.specs.Shown.{memory_number, Place, place_of, Placed, placed, window_called}
+use Rattle.c_window.specs.Shown.{Place, place_of, Placed, placed, window_called}
+
+-- the number of a memory
+abbrev pub memory_number : Memory → ℕ
+memory_number Program = 1
+memory_number Data = 2
 
 -- what the call hands out of a place, or of why there is none
 abbrev pub placed_by : Result Rattle.c_window.specs.declared.window.Place.Place Refusal → Placed

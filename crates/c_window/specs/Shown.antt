@@ -6,13 +6,6 @@ use Rattle.board.specs.Regions.{in_rom}
 use Rattle.board.specs.Windows.{window_answer, window_shown}
 use Rattle.c_cells.specs.Cells.{machine_of}
 use Rattle.c_cells.specs.Checks.{cells_answer}
-use Rattle.c_window.specs.declared.window.Memory.{Memory}
-use Rattle.c_window.specs.declared.window.Memory.TheVariants.{Program, Data}
-
--- the number of a memory
-abbrev pub memory_number : Memory → ℕ
-memory_number Program = 1
-memory_number Data = 2
 
 -- the place of a window, in numbers
 pub record Place : Type 0 where

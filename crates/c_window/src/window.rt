@@ -1,7 +1,7 @@
 // The fetch window.
 ghost use Rattle.std.specs.Prelude.{◌≡◌};
-ghost use Rattle.c_window.specs.Shown.{memory_number, placed, window_called};
-ghost use Rattle.c_window.specs.CallLaws.{placed_by, window_placed};
+ghost use Rattle.c_window.specs.Shown.{placed, window_called};
+ghost use Rattle.c_window.specs.CallLaws.{memory_number, placed_by, window_placed};
 
 use answers::Refusal;
 use c_cells::reading::checked_machine;
