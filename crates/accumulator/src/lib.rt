@@ -2,59 +2,48 @@
 #![tactic(auto)]
 
 ghost use Rattle.std.specs.Prelude.{◌≡◌};
-ghost use Rattle.machine.specs.Cells.{with_acc};
 ghost use Rattle.pages.specs.AccumulatorPages.{ADD, SUB, LAC, ADDH, ADDS, SUBH, SUBS, SUBC, ZALH, ZALS, AND, OR, XOR, SACL, SACH, LACK, ADDK, SUBK, CMPL, NEG, ABS, SFL, SFR, with_shifted};
 ghost use Rattle.pages.specs.AccumulatorRule.{accumulator_rule};
 
 use alu::Shifted;
 use instructions::Accumulator;
 use machine::Machine;
-use pages::{Effect, Jump, Store};
-use passes::with_sum;
+use pages::Effect;
+use passes::{add_to_acc, keep, store_word, subtract_from_acc, with_sum};
 use words::logic;
-
-fn with_acc(m: Machine, acc: u32) -> Machine
-    ensures { result ≡ with_acc m acc }
-{
-    let mut n = m;
-    n.acc = acc;
-    n
-}
 
 fn with_shifted(m: Machine, s: Shifted) -> Machine
     ensures { result ≡ with_shifted m s }
 {
-    let mut n = m;
-    n.acc = s.acc;
-    n.c = s.c;
-    n
+    Machine {
+        acc: s.acc,
+        c: s.c,
+        ..m
+    }
 }
 
 #[tactic(auto, unfolding(pages::specs::AccumulatorPages::ADD))]
 fn add(m: Machine, shift: u8, w: u16) -> Machine
     ensures { result ≡ ADD shift w m }
 {
-    with_sum(
-        m,
-        sums::add(m.acc, shifts::operand_of(w, shift, m.sxm), m.ov, m.ovm),
-    )
+    add_to_acc(m, shifts::operand_of(w, shift, m.sxm))
 }
 
 #[tactic(auto, unfolding(pages::specs::AccumulatorPages::SUB))]
 fn sub(m: Machine, shift: u8, w: u16) -> Machine
     ensures { result ≡ SUB shift w m }
 {
-    with_sum(
-        m,
-        sums::subtract(m.acc, shifts::operand_of(w, shift, m.sxm), m.ov, m.ovm),
-    )
+    subtract_from_acc(m, shifts::operand_of(w, shift, m.sxm))
 }
 
 #[tactic(auto, unfolding(pages::specs::AccumulatorPages::LAC))]
 fn lac(m: Machine, shift: u8, w: u16) -> Machine
     ensures { result ≡ LAC shift w m }
 {
-    with_acc(m, shifts::operand_of(w, shift, m.sxm))
+    Machine {
+        acc: shifts::operand_of(w, shift, m.sxm),
+        ..m
+    }
 }
 
 #[tactic(auto, unfolding(pages::specs::AccumulatorPages::ADDH))]
@@ -68,10 +57,7 @@ fn addh(m: Machine, w: u16) -> Machine
 fn adds(m: Machine, w: u16) -> Machine
     ensures { result ≡ ADDS w m }
 {
-    with_sum(
-        m,
-        sums::add(m.acc, shifts::unsigned_operand(w), m.ov, m.ovm),
-    )
+    add_to_acc(m, shifts::unsigned_operand(w))
 }
 
 #[tactic(auto, unfolding(pages::specs::AccumulatorPages::SUBH))]
@@ -85,10 +71,7 @@ fn subh(m: Machine, w: u16) -> Machine
 fn subs(m: Machine, w: u16) -> Machine
     ensures { result ≡ SUBS w m }
 {
-    with_sum(
-        m,
-        sums::subtract(m.acc, shifts::unsigned_operand(w), m.ov, m.ovm),
-    )
+    subtract_from_acc(m, shifts::unsigned_operand(w))
 }
 
 #[tactic(auto, unfolding(pages::specs::AccumulatorPages::SUBC))]
@@ -105,35 +88,50 @@ fn subc(m: Machine, w: u16) -> Machine
 fn zalh(m: Machine, w: u16) -> Machine
     ensures { result ≡ ZALH w m }
 {
-    with_acc(m, sums::in_high_half(w))
+    Machine {
+        acc: sums::in_high_half(w),
+        ..m
+    }
 }
 
 #[tactic(auto, unfolding(pages::specs::AccumulatorPages::ZALS))]
 fn zals(m: Machine, w: u16) -> Machine
     ensures { result ≡ ZALS w m }
 {
-    with_acc(m, shifts::unsigned_operand(w))
+    Machine {
+        acc: shifts::unsigned_operand(w),
+        ..m
+    }
 }
 
 #[tactic(auto, unfolding(pages::specs::AccumulatorPages::AND))]
 fn and(m: Machine, w: u16) -> Machine
     ensures { result ≡ AND w m }
 {
-    with_acc(m, logic::and_low(m.acc, w))
+    Machine {
+        acc: logic::and_low(m.acc, w),
+        ..m
+    }
 }
 
 #[tactic(auto, unfolding(pages::specs::AccumulatorPages::OR))]
 fn or(m: Machine, w: u16) -> Machine
     ensures { result ≡ OR w m }
 {
-    with_acc(m, logic::or_low(m.acc, w))
+    Machine {
+        acc: logic::or_low(m.acc, w),
+        ..m
+    }
 }
 
 #[tactic(auto, unfolding(pages::specs::AccumulatorPages::XOR))]
 fn xor(m: Machine, w: u16) -> Machine
     ensures { result ≡ XOR w m }
 {
-    with_acc(m, logic::xor_low(m.acc, w))
+    Machine {
+        acc: logic::xor_low(m.acc, w),
+        ..m
+    }
 }
 
 #[tactic(auto, unfolding(pages::specs::AccumulatorPages::SACL))]
@@ -154,28 +152,34 @@ fn sach(m: Machine, shift: u8) -> u16
 fn lack(m: Machine, k: u8) -> Machine
     ensures { result ≡ LACK k m }
 {
-    with_acc(m, k as u32)
+    Machine {
+        acc: u32::from(k),
+        ..m
+    }
 }
 
 #[tactic(auto, unfolding(pages::specs::AccumulatorPages::ADDK))]
 fn addk(m: Machine, k: u8) -> Machine
     ensures { result ≡ ADDK k m }
 {
-    with_sum(m, sums::add(m.acc, k as u32, m.ov, m.ovm))
+    add_to_acc(m, u32::from(k))
 }
 
 #[tactic(auto, unfolding(pages::specs::AccumulatorPages::SUBK))]
 fn subk(m: Machine, k: u8) -> Machine
     ensures { result ≡ SUBK k m }
 {
-    with_sum(m, sums::subtract(m.acc, k as u32, m.ov, m.ovm))
+    subtract_from_acc(m, u32::from(k))
 }
 
 #[tactic(auto, unfolding(pages::specs::AccumulatorPages::CMPL))]
 fn cmpl(m: Machine) -> Machine
     ensures { result ≡ CMPL m }
 {
-    with_acc(m, logic::complement(m.acc))
+    Machine {
+        acc: logic::complement(m.acc),
+        ..m
+    }
 }
 
 #[tactic(auto, unfolding(pages::specs::AccumulatorPages::NEG))]
@@ -211,36 +215,29 @@ fn sfr(m: Machine) -> Machine
 pub fn rule(i: Accumulator, m: Machine, w: u16) -> Effect
     ensures { result ≡ accumulator_rule i m w }
 {
-    let mut n = m;
-    let mut store = Store::Nothing;
     match i {
-        Accumulator::Add(shift, _) => n = add(n, shift, w),
-        Accumulator::Sub(shift, _) => n = sub(n, shift, w),
-        Accumulator::Lac(shift, _) => n = lac(n, shift, w),
-        Accumulator::Addh(_) => n = addh(n, w),
-        Accumulator::Adds(_) => n = adds(n, w),
-        Accumulator::Subh(_) => n = subh(n, w),
-        Accumulator::Subs(_) => n = subs(n, w),
-        Accumulator::Subc(_) => n = subc(n, w),
-        Accumulator::Zalh(_) => n = zalh(n, w),
-        Accumulator::Zals(_) => n = zals(n, w),
-        Accumulator::And(_) => n = and(n, w),
-        Accumulator::Or(_) => n = or(n, w),
-        Accumulator::Xor(_) => n = xor(n, w),
-        Accumulator::Sacl(shift, _) => store = Store::Word(sacl(n, shift)),
-        Accumulator::Sach(shift, _) => store = Store::Word(sach(n, shift)),
-        Accumulator::Lack(k) => n = lack(n, k),
-        Accumulator::Addk(k) => n = addk(n, k),
-        Accumulator::Subk(k) => n = subk(n, k),
-        Accumulator::Cmpl => n = cmpl(n),
-        Accumulator::Neg => n = neg(n),
-        Accumulator::Abs => n = abs(n),
-        Accumulator::Sfl => n = sfl(n),
-        Accumulator::Sfr => n = sfr(n),
-    }
-    Effect {
-        m: n,
-        store,
-        jump: Jump::Past,
+        Accumulator::Add(shift, _) => keep(add(m, shift, w)),
+        Accumulator::Sub(shift, _) => keep(sub(m, shift, w)),
+        Accumulator::Lac(shift, _) => keep(lac(m, shift, w)),
+        Accumulator::Addh(_) => keep(addh(m, w)),
+        Accumulator::Adds(_) => keep(adds(m, w)),
+        Accumulator::Subh(_) => keep(subh(m, w)),
+        Accumulator::Subs(_) => keep(subs(m, w)),
+        Accumulator::Subc(_) => keep(subc(m, w)),
+        Accumulator::Zalh(_) => keep(zalh(m, w)),
+        Accumulator::Zals(_) => keep(zals(m, w)),
+        Accumulator::And(_) => keep(and(m, w)),
+        Accumulator::Or(_) => keep(or(m, w)),
+        Accumulator::Xor(_) => keep(xor(m, w)),
+        Accumulator::Sacl(shift, _) => store_word(m, sacl(m, shift)),
+        Accumulator::Sach(shift, _) => store_word(m, sach(m, shift)),
+        Accumulator::Lack(k) => keep(lack(m, k)),
+        Accumulator::Addk(k) => keep(addk(m, k)),
+        Accumulator::Subk(k) => keep(subk(m, k)),
+        Accumulator::Cmpl => keep(cmpl(m)),
+        Accumulator::Neg => keep(neg(m)),
+        Accumulator::Abs => keep(abs(m)),
+        Accumulator::Sfl => keep(sfl(m)),
+        Accumulator::Sfr => keep(sfr(m)),
     }
 }

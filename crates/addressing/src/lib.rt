@@ -7,15 +7,12 @@ ghost use Rattle.pages.specs.Addressing.{moved, pointed, modified, addressed, ad
 ghost use Rattle.pages.specs.MultiplierPages.{table_address};
 
 use machine::Machine;
-use operands::{Address, Indirect, Modification, NextArp};
-use pages::Operand;
+use operands::{Address, Indirect, Modification};
 
 pub fn register_of(m: Machine, i: u8) -> u16
     ensures { result ≡ register m i }
 {
-    let registers = m.ar;
-    let at = i as usize;
-    if at < 8 { registers[at] } else { 0 }
+    m.ar.get(usize::from(i)).copied().unwrap_or(0)
 }
 
 fn word_or(here: bool, word: u16, old: u16) -> u16
@@ -39,9 +36,7 @@ pub fn with_register(m: Machine, i: u8, word: u16) -> Machine
         word_or(i == 6, word, a[6]),
         word_or(i == 7, word, a[7]),
     ];
-    let mut n = m;
-    n.ar = registers;
-    n
+    Machine { ar: registers, ..m }
 }
 
 // The register `ar` modified, with AR0 as the index.
@@ -62,17 +57,16 @@ fn moved_register(modification: Modification, ar: u16, index: u16) -> u16
 
 // ARP and ARB after a next ARP was asked for.
 #[tactic(auto, unfolding(pages::specs::Addressing::pointed))]
-fn point(m: Machine, next: NextArp) -> Machine
+fn point(m: Machine, next: Option<u8>) -> Machine
     ensures { result ≡ pointed next m }
 {
     match next {
-        NextArp::Same => m,
-        NextArp::To(arp) => {
-            let mut n = m;
-            n.arb = m.arp;
-            n.arp = arp;
-            n
-        }
+        None => m,
+        Some(arp) => Machine {
+            arb: m.arp,
+            arp,
+            ..m
+        },
     }
 }
 
@@ -80,37 +74,34 @@ fn point(m: Machine, next: NextArp) -> Machine
 pub fn modify(m: Machine, operand: Indirect) -> Machine
     ensures { result ≡ modified operand m }
 {
-    let modification = operand.modification;
-    let next = operand.next;
-    let word = moved_register(modification, register_of(m, m.arp), register_of(m, 0));
-    point(with_register(m, m.arp, word), next)
+    let word = moved_register(
+        operand.modification,
+        register_of(m, m.arp),
+        register_of(m, 0),
+    );
+    point(with_register(m, m.arp, word), operand.next)
 }
 
 // The machine after an operand's modification.
 #[tactic(auto, unfolding(pages::specs::Addressing::addressed, pages::specs::Addressing::modified))]
-pub fn after_operand(m: Machine, operand: Operand) -> Machine
+pub fn after_operand(m: Machine, operand: Option<Address>) -> Machine
     ensures { result ≡ addressed operand m }
 {
     match operand {
-        Operand::Nothing => m,
-        Operand::At(address) => match address {
-            Address::Direct(_) => m,
-            Address::Indirect(indirect) => modify(m, indirect),
-        },
+        None | Some(Address::Direct(_)) => m,
+        Some(Address::Indirect(indirect)) => modify(m, indirect),
     }
 }
 
 // The address of an operand: at most 65,535 in every step, but DP and the offset hold more than their nine and seven bits.
 #[tactic(auto, unfolding(pages::specs::Addressing::address_of))]
-pub fn address_of(m: Machine, operand: Operand) -> u32
+pub fn address_of(m: Machine, operand: Option<Address>) -> u32
     ensures { result ≡ address_of operand m }
 {
     match operand {
-        Operand::Nothing => 0,
-        Operand::At(address) => match address {
-            Address::Direct(offset) => (m.dp as u32) * 128 + offset as u32,
-            Address::Indirect(_) => register_of(m, m.arp) as u32,
-        },
+        None => 0,
+        Some(Address::Direct(offset)) => u32::from(m.dp) * 128 + u32::from(offset),
+        Some(Address::Indirect(_)) => u32::from(register_of(m, m.arp)),
     }
 }
 

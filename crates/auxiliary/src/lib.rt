@@ -8,7 +8,8 @@ ghost use Rattle.pages.specs.AuxiliaryRule.{auxiliary_rule};
 use addressing::{register_of, with_register};
 use instructions::Auxiliary;
 use machine::Machine;
-use pages::{Effect, Jump, Store};
+use pages::Effect;
+use passes::{keep, store_word};
 
 #[tactic(auto, unfolding(pages::specs::AuxiliaryPages::LAR))]
 fn lar(m: Machine, r: u8, w: u16) -> Machine
@@ -28,7 +29,7 @@ fn sar(before: Machine, r: u8) -> u16
 fn lark(m: Machine, r: u8, k: u8) -> Machine
     ensures { result ≡ LARK r k m }
 {
-    with_register(m, r, k as u16)
+    with_register(m, r, u16::from(k))
 }
 
 #[tactic(auto, unfolding(pages::specs::AuxiliaryPages::MAR))]
@@ -45,7 +46,7 @@ fn adrk(m: Machine, k: u8) -> Machine
     with_register(
         m,
         m.arp,
-        registers::wrapped_sum(register_of(m, m.arp), k as u16),
+        registers::wrapped_sum(register_of(m, m.arp), u16::from(k)),
     )
 }
 
@@ -56,7 +57,7 @@ fn sbrk(m: Machine, k: u8) -> Machine
     with_register(
         m,
         m.arp,
-        registers::wrapped_difference(register_of(m, m.arp), k as u16),
+        registers::wrapped_difference(register_of(m, m.arp), u16::from(k)),
     )
 }
 
@@ -64,18 +65,14 @@ fn sbrk(m: Machine, k: u8) -> Machine
 fn ldp(m: Machine, w: u16) -> Machine
     ensures { result ≡ LDP w m }
 {
-    let mut n = m;
-    n.dp = w % 512;
-    n
+    Machine { dp: w % 512, ..m }
 }
 
 #[tactic(auto, unfolding(pages::specs::AuxiliaryPages::LDPK))]
 fn ldpk(m: Machine, k: u16) -> Machine
     ensures { result ≡ LDPK k m }
 {
-    let mut n = m;
-    n.dp = k;
-    n
+    Machine { dp: k, ..m }
 }
 
 // The rule of each case, with the machine before and after the operand's modification and the data word that was read.
@@ -83,21 +80,14 @@ fn ldpk(m: Machine, k: u16) -> Machine
 pub fn rule(i: Auxiliary, before: Machine, m: Machine, w: u16) -> Effect
     ensures { result ≡ auxiliary_rule i before m w }
 {
-    let mut n = m;
-    let mut store = Store::Nothing;
     match i {
-        Auxiliary::Lar(r, _) => n = lar(n, r, w),
-        Auxiliary::Sar(r, _) => store = Store::Word(sar(before, r)),
-        Auxiliary::Lark(r, k) => n = lark(n, r, k),
-        Auxiliary::Mar(_) => n = mar(n),
-        Auxiliary::Adrk(k) => n = adrk(n, k),
-        Auxiliary::Sbrk(k) => n = sbrk(n, k),
-        Auxiliary::Ldp(_) => n = ldp(n, w),
-        Auxiliary::Ldpk(k) => n = ldpk(n, k),
-    }
-    Effect {
-        m: n,
-        store,
-        jump: Jump::Past,
+        Auxiliary::Lar(r, _) => keep(lar(m, r, w)),
+        Auxiliary::Sar(r, _) => store_word(m, sar(before, r)),
+        Auxiliary::Lark(r, k) => keep(lark(m, r, k)),
+        Auxiliary::Mar(_) => keep(mar(m)),
+        Auxiliary::Adrk(k) => keep(adrk(m, k)),
+        Auxiliary::Sbrk(k) => keep(sbrk(m, k)),
+        Auxiliary::Ldp(_) => keep(ldp(m, w)),
+        Auxiliary::Ldpk(k) => keep(ldpk(m, k)),
     }
 }

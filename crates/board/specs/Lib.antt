@@ -3,6 +3,7 @@ pub mod Finding
 pub mod Slices
 pub mod Windows
 pub mod Given
+pub mod Lent
 -- words of the laws
 pub mod RegionFacts
 pub mod SliceFacts

@@ -1,8 +1,15 @@
-// What is on the board, what is lent for it and what is shown of it, in specs/ alone: the functions stand above. Here are only the types of a region and of a word that was found.
+// What is on the board, what is lent for it and what is shown of it: the definitions in specs/, and here the types of a region, of a word that was found, and
+// of what a step is lent. The functions stand above.
 #![tactic(auto)]
 
+ghost use Rattle.std.specs.Prelude.{◌≡◌};
+ghost use Rattle.board.specs.Given.{given};
+ghost use Rattle.board.specs.Lent.{LentWords};
+
+use std::marker::Model;
+
 // Where a data address lies. One function, data_region, knows the ranges, and asks first for the one that frames lie in.
-#[derive(Clone, Copy)]
+#[derive(Clone, Copy, Debug, PartialEq, Eq)]
 pub enum Region {
     Absent,
     B2,
@@ -12,8 +19,65 @@ pub enum Region {
 }
 
 // What the routine that finds a data word answers with: the word, and where it lies (document 02, request 7).
-#[derive(Clone, Copy)]
+#[derive(Clone, Copy, Debug, PartialEq, Eq)]
 pub struct Found {
     pub word: u16,
     pub region: Region,
+}
+
+// The slices that a step is lent, as its plan reads them: the program memory, the data memory, the input, and how long the output is.
+#[derive(Drop)]
+pub struct Lent<'a> {
+    rom: &'a [u16],
+    data: &'a [u16],
+    input: &'a [u16],
+    output_length: usize,
+}
+
+impl<'a> Model for Lent<'a> {
+    ghost Value = { LentWords };
+
+    ghost view = { λ l. record { given = given l.rom.now l.input.now; «data» = l.«data».now; output_length = l.output_length } };
+}
+
+impl<'a> Lent<'a> {
+    #[inline(always)]
+    pub fn new(rom: &'a [u16], data: &'a [u16], input: &'a [u16], output_length: usize) -> Lent<'a>
+        ensures { result ≡ record { given = given rom.now input.now; «data» = «data».now; output_length = output_length } }
+    {
+        Lent {
+            rom,
+            data,
+            input,
+            output_length,
+        }
+    }
+
+    #[inline(always)]
+    pub fn rom(&self) -> &'a [u16]
+        ensures { result.now ≡ self.now.given.rom }
+    {
+        self.rom
+    }
+
+    #[inline(always)]
+    pub fn data(&self) -> &'a [u16]
+        ensures { result.now ≡ self.now.«data» }
+    {
+        self.data
+    }
+
+    #[inline(always)]
+    pub fn input(&self) -> &'a [u16]
+        ensures { result.now ≡ self.now.given.input }
+    {
+        self.input
+    }
+
+    #[inline(always)]
+    pub fn output_length(&self) -> usize
+        ensures { result ≡ self.now.output_length }
+    {
+        self.output_length
+    }
 }

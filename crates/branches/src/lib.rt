@@ -2,7 +2,6 @@
 #![tactic(auto)]
 
 ghost use Rattle.std.specs.Prelude.{◌≡◌};
-ghost use Rattle.machine.specs.Cells.{with_ov};
 ghost use Rattle.pages.specs.BranchesPages.{branched, B, BANZ, BZ, BNZ, BGZ, BGEZ, BLZ, BLEZ, BV, BNV, CALL, RET};
 ghost use Rattle.pages.specs.BranchesRule.{branches_rule};
 
@@ -47,50 +46,46 @@ fn bnz(pma: u16, m: Machine) -> Effect
     branch(m.acc != 0, pma, m)
 }
 
+#[tactic(auto, using(crate::specs::Signs::is_positive), unfolding(pages::specs::BranchesPages::BGZ))]
 fn bgz(pma: u16, m: Machine) -> Effect
     ensures { result ≡ BGZ pma m }
 {
     branch((0 < m.acc) & (m.acc < 2147483648), pma, m)
 }
 
+#[tactic(auto, using(crate::specs::Signs::is_not_negative), unfolding(pages::specs::BranchesPages::BGEZ))]
 fn bgez(pma: u16, m: Machine) -> Effect
     ensures { result ≡ BGEZ pma m }
 {
     branch(m.acc < 2147483648, pma, m)
 }
 
+#[tactic(auto, using(crate::specs::Signs::is_negative), unfolding(pages::specs::BranchesPages::BLZ))]
 fn blz(pma: u16, m: Machine) -> Effect
     ensures { result ≡ BLZ pma m }
 {
     branch(2147483648 <= m.acc, pma, m)
 }
 
+#[tactic(auto, using(crate::specs::Signs::is_not_positive), unfolding(pages::specs::BranchesPages::BLEZ))]
 fn blez(pma: u16, m: Machine) -> Effect
     ensures { result ≡ BLEZ pma m }
 {
     branch((m.acc == 0) | (2147483648 <= m.acc), pma, m)
 }
 
-fn without_overflow(m: Machine) -> Machine
-    ensures { result ≡ with_ov m 0 }
-{
-    let mut n = m;
-    n.ov = 0;
-    n
-}
-
 #[tactic(auto, unfolding(pages::specs::BranchesPages::BV))]
 fn bv(pma: u16, m: Machine) -> Effect
     ensures { result ≡ BV pma m }
 {
-    branch(m.ov == 1, pma, without_overflow(m))
+    branch(m.ov == 1, pma, Machine { ov: 0, ..m })
 }
 
 #[tactic(auto, unfolding(pages::specs::BranchesPages::BNV))]
 fn bnv(pma: u16, m: Machine) -> Effect
     ensures { result ≡ BNV pma m }
 {
-    branch(m.ov == 0, pma, without_overflow(m))
+    branch(m.ov == 0, pma, Machine { ov: 0, ..m })
 }
 
 #[tactic(auto, unfolding(pages::specs::BranchesPages::CALL))]
@@ -104,9 +99,8 @@ fn call(pma: u16, m: Machine) -> Effect
 fn ret(m: Machine) -> Effect
     ensures { result ≡ RET m }
 {
-    let p = pop_on(m);
-    let n = p.m;
-    jump_to(n, p.word)
+    let popped = pop_on(m);
+    jump_to(popped.m, popped.word)
 }
 
 // The rule of each case, with the machine before and after the operand's modification and the second word.

@@ -4,9 +4,10 @@
 #![tactic(auto)]
 
 use instructions::Decoded;
+use std::ops::AddAssign;
 use std::{fmt, io};
 
-#[derive(Clone, Copy)]
+#[derive(Clone, Copy, Default)]
 struct Counts {
     built: u64,
     unbuilt: u64,
@@ -14,71 +15,52 @@ struct Counts {
 }
 
 impl Counts {
-    fn none() -> Counts {
-        Counts {
-            built: 0,
-            unbuilt: 0,
-            nothing: 0,
-        }
-    }
-
     // One word more.
-    fn with(mut self, d: Decoded) -> Counts {
+    fn with(self, d: Decoded) -> Counts {
         match d {
-            Decoded::Built(_) => {
-                self.built = self.built.wrapping_add(1);
-            }
-            Decoded::Unbuilt => {
-                self.unbuilt = self.unbuilt.wrapping_add(1);
-            }
-            Decoded::Nothing => {
-                self.nothing = self.nothing.wrapping_add(1);
-            }
+            Decoded::Built(_) => Counts {
+                built: self.built.wrapping_add(1),
+                ..self
+            },
+            Decoded::Unbuilt => Counts {
+                unbuilt: self.unbuilt.wrapping_add(1),
+                ..self
+            },
+            Decoded::Nothing => Counts {
+                nothing: self.nothing.wrapping_add(1),
+                ..self
+            },
         }
-        self
     }
+}
 
-    fn plus(self, more: Counts) -> Counts {
-        Counts {
-            built: self.built.wrapping_add(more.built),
-            unbuilt: self.unbuilt.wrapping_add(more.unbuilt),
-            nothing: self.nothing.wrapping_add(more.nothing),
-        }
+impl AddAssign for Counts {
+    fn add_assign(&mut self, more: Counts) {
+        self.built = self.built.wrapping_add(more.built);
+        self.unbuilt = self.unbuilt.wrapping_add(more.unbuilt);
+        self.nothing = self.nothing.wrapping_add(more.nothing);
     }
 }
 
 // The three counts, with one space between.
 impl fmt::Display for Counts {
     fn fmt<W: fmt::Write>(&self, f: &mut fmt::Formatter<W>) -> fmt::Result {
-        let built = self.built;
-        let unbuilt = self.unbuilt;
-        let nothing = self.nothing;
-        write!(f, "{built} {unbuilt} {nothing}")
+        write!(f, "{} {} {}", self.built, self.unbuilt, self.nothing)
     }
 }
 
-fn decoded(upper: u16, low: u16) -> Decoded {
-    decoder::decode(upper % 256 * 256 + low % 256)
-}
-
-fn counts_of(upper: u16) -> Counts {
-    let mut counts = Counts::none();
-    for low in 0..256 {
-        counts = counts.with(decoded(upper, low));
-    }
-    counts
-}
-
-fn print_line(rt: &impl Print, upper: u16) -> io::Result<Counts> {
-    let counts = counts_of(upper);
-    println!(rt; "{upper:02x} {counts}")?;
-    Ok(counts)
+fn counts_of(upper: u8) -> Counts {
+    (0..=u8::MAX)
+        .map(|low| decoder::decode(u16::from_be_bytes([upper, low])))
+        .fold(Counts::default(), |counts, d| counts.with(d))
 }
 
 fn main(rt: HostRuntime) -> io::Result<()> {
-    let mut total = Counts::none();
-    for upper in 0..256 {
-        total = total.plus(print_line(&rt, upper)?);
+    let mut total = Counts::default();
+    for upper in 0..=u8::MAX {
+        let counts = counts_of(upper);
+        println!(rt; "{upper:02x} {counts}")?;
+        total += counts;
     }
     println!(rt; "{total}")
 }

@@ -1,4 +1,5 @@
-// The decoder: a table of the 256 upper bytes gives the kind, and the low byte the page.
+// The decoder: a table of the 256 upper bytes gives the kind, and the low byte the page. Kinds and places are numbers and no enums: `decode_by`
+// promises its answer for every table of bytes, and a place is the number that the definition `meaning_at` counts the pages by.
 #![tactic(auto)]
 
 ghost use Rattle.std.specs.Prelude.{◌≡◌, get_or};
@@ -28,103 +29,83 @@ const CONTROLS: [u8; 64] = [
 fn kind_of(kinds: &[u8], upper: u8) -> u8
     ensures { result ≡ get_or kinds.now upper 0 }
 {
-    let i = upper as usize;
-    if i < kinds.len() {
-        return kinds[i];
-    }
-    0
+    kinds.get(usize::from(upper)).copied().unwrap_or(0)
 }
 
 // CEh and a low byte: above 63 there are CMPR (0101 00KK) and NORM (1MMM 0010).
+#[tactic(auto, unfolding(kinds::specs::Groups::control_place, kinds::specs::Groups::controls))]
 fn control_of(low: u8) -> u8
     ensures { result ≡ control_place controls low }
 {
     if low < 64 {
-        let i = low as usize;
-        return CONTROLS[i];
+        CONTROLS[usize::from(low)]
+    } else if low / 4 == 20 {
+        102
+    } else if low >= 128 && low % 16 == 2 && low / 16 != 11 {
+        122
+    } else {
+        NO_PAGE
     }
-    if low / 4 == 20 {
-        return 102;
-    }
-    if (128 <= low) & (low % 16 == 2) & (low / 16 != 11) {
-        return 122;
-    }
-    NO_PAGE
 }
 
 // A long immediate's low byte: 0 (LRLK) or 1 to 6.
+#[tactic(auto, unfolding(kinds::specs::Groups::long_place))]
 fn long_of(least: u8, low: u8) -> u8
     ensures { result ≡ long_place least low }
 {
-    if 7 <= low {
-        return NO_PAGE;
+    if least <= low && low < 7 {
+        123 + low
+    } else {
+        NO_PAGE
     }
-    if low < least {
-        return NO_PAGE;
-    }
-    123 + low
 }
 
+#[tactic(auto, using(kinds::specs::Groups::control_place_lem, kinds::specs::Groups::long_place_lem, kinds::specs::Groups::long_place_1, kinds::specs::Groups::group_else))]
 fn group_page(kind: u8, low: u8) -> u8
     ensures { result ≡ lower_in 133 (group_of kind) low }
 {
-    if kind == CONTROL {
-        return control_of(low);
+    match kind {
+        CONTROL => control_of(low),
+        LONG => long_of(0, low),
+        _ => long_of(1, low),
     }
-    if kind == LONG {
-        return long_of(0, low);
-    }
-    long_of(1, low)
 }
 
 // The kinds with a low byte IDDD DDDD.
+#[tactic(auto, unfolding(kinds::specs::Kinds::is_addressed))]
 fn is_addressed(kind: u8) -> bool
     ensures { result ≡ is_addressed kind }
 {
-    match kind {
-        0..=14 => true,
-        23..=36 => true,
-        42..=45 => true,
-        62..=65 => true,
-        75..=94 => true,
-        _ => false,
-    }
+    matches!(kind, 0..=14 | 23..=36 | 42..=45 | 62..=65 | 75..=94)
 }
 
 // The kinds with a low byte 1DDD DDDD.
+#[tactic(auto, unfolding(kinds::specs::Kinds::is_branch))]
 fn is_branch(kind: u8) -> bool
     ensures { result ≡ is_branch kind }
 {
-    match kind {
-        50..=60 => true,
-        95..=99 => true,
-        _ => false,
-    }
+    matches!(kind, 50..=60 | 95..=99)
 }
 
 // The place of the page of a kind and a low byte.
+#[tactic(auto, unfolding(kinds::specs::Kinds::place_of_kind))]
 fn page_of(kind: u8, low: u8) -> u8
     ensures { result ≡ place_of_kind kind low }
 {
-    if is_addressed(kind) {
-        if kinds::is_operand(low) {
-            return kind;
-        }
-        return NO_PAGE;
-    }
-    if is_branch(kind) {
-        if kinds::is_indirect(low) {
-            return kind;
-        }
-        return NO_PAGE;
-    }
-    if kind < CONTROL {
-        return kind;
-    }
-    group_page(kind, low)
+    let fits = if is_addressed(kind) {
+        kinds::is_operand(low)
+    } else if is_branch(kind) {
+        kinds::is_indirect(low)
+    } else if kind < CONTROL {
+        true
+    } else {
+        return group_page(kind, low);
+    };
+    if fits { kind } else { NO_PAGE }
 }
 
 // What a word is by a table of kinds.
+#[tactic(auto, unfolding(crate::specs::ByTable::decode_by))]
 pub fn decode_by(kinds: &[u8], w: u16) -> Decoded
     ensures { result ≡ decode_by kinds.now w }
 {
@@ -133,6 +114,7 @@ pub fn decode_by(kinds: &[u8], w: u16) -> Decoded
 }
 
 // What a word is.
+#[tactic(auto, using(crate::specs::TableLaws::decode_by_kinds))]
 pub fn decode(w: u16) -> Decoded
     ensures { result ≡ decode_of w }
 {

@@ -1,5 +1,5 @@
 -- Sixteen passes of SUBC divide: proofs.
-use Rattle.std.specs.Prelude.{◌≡◌, Bool, ltb, eqb, ℤ, ◌-ℤ◌, ◌*ℤ◌}
+use Rattle.std.specs.Prelude.{◌≡◌, Bool, ltb, eqb, ℤ, ◌-ℤ◌, ◌*ℤ◌, Some}
 use Rattle.std.proofs.Math.Path.{refl, ap}
 use Rattle.std.proofs.Common.{◌∙◌, ap₂}
 use Rattle.std.proofs.Math.Bool.{true, false, cond}
@@ -17,7 +17,6 @@ use Rattle.sums.specs.SumLaws.{holds_in}
 use Rattle.machine.specs.declared.Machine.{Machine}
 use Rattle.answers.proofs.NumberLaws.{done_is}
 use Rattle.instructions.specs.declared.Instruction.{Instruction}
-use Rattle.pages.specs.declared.Operand.TheVariants.{At}
 use Rattle.pages.specs.Traits.{traits_of, accumulator_traits}
 use Rattle.pages.specs.Addressing.{addressed}
 use Rattle.pages.specs.AccumulatorPages.{SUBC}
@@ -100,8 +99,8 @@ module _ (g : Given) (d : ℕ) (w : World) (h : Divisor d) (below : w.m.acc < d 
   one_pass p =
       let i = subc p.operand in
       let left = rule_leaves i (every_pass_works g w i p.at_subc refl (done_is _ p.not_refused)) in
-      let effect : (effect_at g w i).m ≡ SUBC d (addressed (At p.operand) w.m) = ap (λ (x : ℕ). SUBC x (addressed (At p.operand) w.m)) p.reads in
-      let o = rule (addressed (At p.operand) w.m) (operand_alike (At p.operand) w.m) in
+      let effect : (effect_at g w i).m ≡ SUBC d (addressed (Some p.operand) w.m) = ap (λ (x : ℕ). SUBC x (addressed (Some p.operand) w.m)) p.reads in
+      let o = rule (addressed (Some p.operand) w.m) (operand_alike (Some p.operand) w.m) in
       (left.0 ∙ ap (λ (m : Machine). m.acc) effect ∙ o.0, left.1 ∙ ap (λ (m : Machine). m.ov) effect ∙ o.1)
 
 -- ---- sixteen

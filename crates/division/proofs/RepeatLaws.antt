@@ -1,5 +1,5 @@
 -- The exposure code divides: proofs.
-use Rattle.std.specs.Prelude.{◌≡◌, true}
+use Rattle.std.specs.Prelude.{◌≡◌, true, Some}
 use Rattle.std.proofs.Math.Path.{refl, ap, ap₂}
 use Rattle.std.proofs.Common.{◌∙◌, arith}
 use mathlib.Core.List.{List}
@@ -14,7 +14,6 @@ use Rattle.answers.proofs.NumberLaws.{done_is}
 use Rattle.operands.specs.declared.Address.{Address}
 use Rattle.operands.specs.declared.Address.TheVariants.{Direct, Indirect}
 use Rattle.instructions.specs.declared.Decoded.TheVariants.{Built}
-use Rattle.pages.specs.declared.Operand.TheVariants.{At}
 use Rattle.pages.specs.Traits.{traits_of, accumulator_traits}
 use Rattle.pages.specs.Addressing.{address_of}
 use Rattle.pages.specs.AccumulatorPages.{SUBC}
@@ -42,7 +41,7 @@ use Rattle.division.specs.ExposureLaws.{still_machine}
 -- ---- one pass with an operand that changes nothing
 
 -- SUBC's rule, and what follows a pass that goes on, leave the operand's address as it was
-same_address : (a : Address) (m : Machine) (word pc k : ℕ) → address_of (At a) (with_mid (with_rptc (with_pc (SUBC word m) pc) k) 1) ≡ address_of (At a) m
+same_address : (a : Address) (m : Machine) (word pc k : ℕ) → address_of (Some a) (with_mid (with_rptc (with_pc (SUBC word m) pc) k) 1) ≡ address_of (Some a) m
 unfolding address_of SUBC
 same_address (Direct offset) m word pc k = refl
 same_address (Indirect i) m word pc k = refl
@@ -52,7 +51,7 @@ module _ (g : Given) (d : ℕ) (a : Address) (still : Still a) where
   record Ready (k : ℕ) (v : World) : Type 0 where
     at_subc : decoded_at g v.«data» v.m ≡ Built (subc a)
     count : v.m.rptc ≡ k
-    divisor : get_or v.«data» (address_of (At a) v.m) 0 ≡ d
+    divisor : get_or v.«data» (address_of (Some a) v.m) 0 ≡ d
 
   module _ (k : ℕ) (v : World) (r : Ready k v) (done : is_done (step_of g v).answer ≡ true) where
     works : PassWorks g v (subc a)
@@ -68,9 +67,9 @@ module _ (g : Given) (d : ℕ) (a : Address) (still : Still a) where
     same_data = works.stores_data
 
     -- the cells that a pass changes are ACC, OV and C, and what follows it
-    effect : (effect_at g v (subc a)).m ≡ SUBC (get_or v.«data» (address_of (At a) v.m) 0) v.m
+    effect : (effect_at g v (subc a)).m ≡ SUBC (get_or v.«data» (address_of (Some a) v.m) 0) v.m
     unfolding traits_of accumulator_traits effect_of rule_of accumulator_rule words_read found_for operand_found found_at
-    effect = ap (SUBC (get_or v.«data» (address_of (At a) v.m) 0)) (still_machine a still v.m)
+    effect = ap (SUBC (get_or v.«data» (address_of (Some a) v.m) 0)) (still_machine a still v.m)
 
   again_ready : (k : ℕ) (v : World) → Ready (suc k) v → is_done (step_of g v).answer ≡ true → Ready k (step_of g v).world
   unfolding decoded_at SUBC
@@ -80,7 +79,7 @@ module _ (g : Given) (d : ℕ) (a : Address) (still : Still a) where
       record {
         at_subc = ap₂ (λ (l : List ℕ) (m : Machine). decoded_at g l m) f e ∙ r.at_subc;
         count = ap (λ (m : Machine). m.rptc) e;
-        divisor = ap₂ (λ (l : List ℕ) (m : Machine). get_or l (address_of (At a) m) 0) f e ∙ ap (λ (x : ℕ). get_or v.«data» x 0) (same_address a v.m _ v.m.pc k) ∙ r.divisor;
+        divisor = ap₂ (λ (l : List ℕ) (m : Machine). get_or l (address_of (Some a) m) 0) f e ∙ ap (λ (x : ℕ). get_or v.«data» x 0) (same_address a v.m _ v.m.pc k) ∙ r.divisor;
       }
 
   -- the passes of the repeat, to the last

@@ -1,5 +1,5 @@
 -- The two runs, computed.
-use Rattle.std.specs.Prelude.{refl}
+use Rattle.std.specs.Prelude.{refl, None}
 use Rattle.alu.specs.Word.{signed, low}
 use Rattle.alu.specs.Sums.{holds, no_borrow}
 use Rattle.alu.specs.Shifts.{extended, operand}
@@ -8,8 +8,7 @@ use Rattle.alu.specs.Registers.{wrapped_sum}
 use Rattle.machine.specs.Reset.{reset_machine}
 use Rattle.machine.specs.Range.{in_range}
 use Rattle.operands.specs.declared.Address.TheVariants.{Direct, Indirect}
-use Rattle.operands.specs.declared.Modification.TheVariants.{None, Plus}
-use Rattle.operands.specs.declared.NextArp.TheVariants.{Same}
+use Rattle.operands.specs.declared.Modification.{Modification}
 use Rattle.instructions.specs.declared.Instruction.TheVariants as Family
 use Rattle.instructions.specs.declared.Modes.TheVariants.{Rpt, Rptk}
 use Rattle.instructions.specs.Encoding.{low_fits, modification_of, next_of, indirect_of, address_mode_of}
@@ -52,10 +51,10 @@ exposure_cases = record {
   };
   guide_end = refl;
   limit_code = record {
-    repeat = Family.Modes (Rpt (Indirect (record { modification = Plus; next = Same })));
+    repeat = Family.Modes (Rpt (Indirect (record { modification = Modification.Plus; next = None })));
     repeat_first = refl;
-    repeat_gives = by_rpt (Indirect (record { modification = Plus; next = Same }));
-    operand = Indirect (record { modification = None; next = Same });
+    repeat_gives = by_rpt (Indirect (record { modification = Modification.Plus; next = None }));
+    operand = Indirect (record { modification = Modification.None; next = None });
     still = indirect;
     subc_second = refl;
     divisor_there = refl;

@@ -1,5 +1,6 @@
 -- Checks 1 and 2 made once, before a step or a run: proofs.
-use Rattle.std.specs.Prelude.{◌≡◌, Bool, List, [], ◌∷◌, length, get_or}
+use Rattle.std.specs.Prelude.{◌≡◌, Bool, List, [], ◌∷◌, length, get_or, Result, Ok, Err, IsErr, IsErrAnd, is_err}
+use Rattle.std.proofs.lemmas.Bool.{false≢true}
 use Rattle.std.proofs.Math.Path.{refl, sym, ap}
 use Rattle.std.proofs.Common.{◌∙◌, arith}
 use Rattle.std.proofs.Math.Bool.{true, false}
@@ -8,6 +9,7 @@ use Rattle.machine.specs.declared.Machine.{Machine}
 use Rattle.machine.specs.Range.{in_range}
 use Rattle.answers.specs.Answers.{Answer}
 use Rattle.answers.specs.Answers.{Done}
+use Rattle.answers.specs.declared.Refusal.{Refusal}
 use Rattle.answers.specs.Numbers.{is_done}
 use Rattle.answers.proofs.NumberLaws.{done_is}
 use Rattle.board.specs.Slices.{slices_fit}
@@ -27,7 +29,8 @@ use Rattle.steps.proofs.StepLaws.{step_fits, Running, running_begins, running_go
 use Rattle.steps.specs.declared.Outside.{Outside}
 use Rattle.steps.specs.OperandFound.{none_outside}
 use Rattle.steps.specs.Tally.{plan_in, plans_of, tallied, both_outside, add_outside, outside_of}
-use Rattle.steps.proofs.TallyLaws.{few_outside, Tallying, tallying_begins, tallying_goes, tallying_stops, tallying_ends, no_plans}
+use Rattle.steps.proofs.TallyLaws.{few_outside, Tallying, tallying_begins, tallying_goes, tallying_stops, tallying_ends, no_plans, refused_none, one_counted}
+use Rattle.laws.proofs.Steps.{refused_unchanged}
 use Rattle.steps.specs.Summary.{add_store}
 use Rattle.steps.proofs.SummaryLaws.{plan_sized, refused_adds}
 use Rattle.emulator.specs.Totals.{in_one, apart_from}
@@ -197,9 +200,9 @@ module _ (g : Given) (budget : ℕ) (w₀ : World) (s₀ : List ℕ) where
   kept_begins going = record { going = going; totalling = totalling_begins g budget w₀; tallying = tallying_begins add_store g budget w₀ s₀; same_size = refl }
 
   module _ (w : World) (s : List ℕ) (k totals : ℕ) (kept : Kept g budget w₀ s₀ w s k totals) where
-    pub kept_ends : budget < 65536 → budget ≤ k → RunGives g budget w₀ s₀ (record { world = w; steps = k; answer = Done }) (apart_from totals) s
+    pub kept_ends : budget < 65536 → budget ≤ k → RunGives g budget w₀ s₀ (record { world = w; steps = budget; answer = Done }) (apart_from totals) s
     kept_ends b l = (
-      going_ends g budget w₀ w k kept.going l,
+      ap (λ (n : ℕ). record { world = w; steps = n; answer = Done }) (omega (arith, kept.going.running.within)) ∙ going_ends g budget w₀ w k kept.going l,
       (
         totalling_ends g budget w₀ w k totals kept.totalling (omega (arith, kept.going.running.within)) l,
         tallying_ends add_store g budget w₀ s₀ w k s kept.tallying l,
@@ -228,11 +231,29 @@ module _ (g : Given) (budget : ℕ) (w₀ : World) (s₀ : List ℕ) where
             ),
           )
 
+-- ---- what a refusal and a `?` tell
+
+pub refusing : (a b : Answer) → a ≡ b → is_err a ≡ true → is_done b ≡ false
+refusing (Ok _) b e h = absurd (false≢true h)
+refusing (Err _) b e h = ap is_done (sym e)
+
+pub none_refused : (a b : Answer) → a ≡ b → is_err a ≡ false → b ≡ Done
+none_refused (Ok tt) b e h = sym e
+none_refused (Err _) b e h = absurd (false≢true (sym h))
+
+pub passed_on : {A E : Type 0} (r : Result A E) (e : E) → IsErr r × IsErrAnd r (λ (x : E). x ≡ e) → r ≡ Err e
+passed_on (Ok x) e h = absurd (false≢true h.0)
+passed_on (Err x) e h = ap Err h.1
+
 -- ---- a run of one step is that step
 
 -- what a run leaves, without its count
 abbrev pub outcome_of : RunOutcome → Outcome
 outcome_of r = record { world = r.world; answer = r.answer }
+
+-- a world as a step leaves it that is done
+abbrev pub outcome_done : World → Outcome
+outcome_done w = record { world = w; answer = Done }
 
 module _ (g : Given) (w : World) where
   last_done : (a : Answer) → is_done a ≡ true → checks_in g (step_of g w).world ≡ Done → (step_of g w).answer ≡ a
@@ -253,3 +274,22 @@ module _ (g : Given) (w : World) where
 
   pub one_step : (is_done (checks_in g w) ≡ true → WorldInRange g w) → outcome_of (run_of g 1 w) ≡ step_of g w
   one_step f = one_by (is_done (checks_in g w)) refl f
+
+  -- what the code gives of that step, from a run of one step
+  module _ (r : RunOutcome) (x : Outside) (e : r ≡ run_of g 1 w) (o : x ≡ outside_of g 1 w) (f : is_done (checks_in g w) ≡ true → WorldInRange g w) where
+    is_step : outcome_of r ≡ step_of g w
+    is_step = ap outcome_of e ∙ one_step f
+
+    pub done_step : r.answer ≡ Done → (outcome_done r.world ≡ step_of g w) × (x ≡ (plan_in g w).outside)
+    done_step h = (ap (λ (a : Answer). record { world = r.world; answer = a }) (sym h) ∙ is_step, o ∙ one_counted g w)
+
+    -- a refused step leaves the world that it got, so that its machine need not come back
+    pub refused_once : (refusal : Refusal) → r.answer ≡ Err refusal
+        → (record { world = record { m = w.m; «data» = r.world.«data»; output = r.world.output }; answer = Err refusal } ≡ step_of g w) × (none_outside ≡ (plan_in g w).outside)
+    refused_once refusal h =
+        let not_done : is_done (step_of g w).answer ≡ false = ap (λ (s : Outcome). is_done s.answer) (sym is_step) ∙ ap is_done h in
+        let same : r.world ≡ w = ap (λ (s : Outcome). s.world) is_step ∙ refused_unchanged g w not_done in (
+          ap (λ (u : World). record { world = record { m = w.m; «data» = u.«data»; output = u.output }; answer = Err refusal }) same
+              ∙ (ap (λ (a : Answer). record { world = w; answer = a }) (sym h) ∙ (ap (λ (u : World). record { world = u; answer = r.answer }) (sym same) ∙ is_step)),
+          sym (refused_none g w not_done),
+        )

@@ -7,26 +7,29 @@ ghost use Rattle.kinds.specs.Table.{kind_table};
 ghost use Rattle.steps.specs.Stores.{data_after, output_after};
 ghost use Rattle.steps.proofs.StoreLaws.{WriteFits};
 ghost use Rattle.steps.specs.Table.{checks_of};
+ghost use Rattle.steps.specs.OperandFound.{none_outside};
 ghost use Rattle.steps.specs.Step.{step_of, run_of};
 ghost use Rattle.steps.specs.Tally.{plan_in, plans_of, tallied, outside_of};
 ghost use Rattle.steps.specs.Summary.{add_store, checks_with, run_with, outside_with, summary_with};
-ghost use Rattle.emulator.specs.Outcomes.{stepped, ran};
+ghost use Rattle.emulator.specs.Outcomes.{stepped, counted, ran};
 ghost use Rattle.emulator.specs.Totals.{in_one, apart_from};
 ghost use Rattle.board.specs.Given.{given};
 
-use answers::{Answer, is_done};
+use answers::{Answer, Refusal};
+use board::Lent;
 use fetching::plan_fetched;
 use machine::Machine;
 use steps::{Outside, Write};
 use summaries::{count_store, summary_fits};
 
+// What a step that is done leaves beside the slices.
 #[derive(Clone, Copy)]
 pub struct Stepped {
     pub m: Machine,
-    pub answer: Answer,
     pub outside: Outside,
 }
 
+// What a run leaves beside the slices: the steps that were done, and what ended it.
 #[derive(Clone, Copy)]
 pub struct Ran {
     pub m: Machine,
@@ -37,12 +40,14 @@ pub struct Ran {
 
 // Both counts in one number, the writes in its upper half. A run keeps its totals so: one sum beside its steps takes 7 to 19 instructions of a step less
 // than two (docs/PERFORMANCE.md).
+#[tactic(auto, unfolding(crate::specs::Totals::in_one))]
 fn in_one(outside: Outside) -> u32
     ensures { result ≡ in_one outside }
 {
     (outside.reads as u32) + 65536 * (outside.writes as u32)
 }
 
+#[tactic(auto, unfolding(crate::specs::Totals::apart_from))]
 fn apart(totals: u32) -> Outside
     ensures { result ≡ apart_from totals }
 {
@@ -63,6 +68,7 @@ fn store_data(data: &mut [u16], address: u32, word: u16)
 }
 
 // The one store of a step.
+#[tactic(auto, unfolding(steps::specs::Stores::data_after, steps::specs::Stores::output_after, steps::proofs::StoreLaws::WriteFits))]
 fn commit(write: Write, data: &mut [u16], output: &mut [u16])
     requires { WriteFits write (length «data».old) }
     ensures { («data».new ≡ data_after write «data».old) × (output.new ≡ output_after write output.old) }
@@ -83,59 +89,57 @@ fn checked_step(
     input: &[u16],
     output: &mut [u16],
     summary: &mut [u16],
-) -> Stepped
+) -> Result<Stepped, Refusal>
     requires { (kinds.now ≡ kind_table) × (checks_of (given rom.now input.now) «data».old (length output.old) m ≡ Done) }
-    ensures outcome { stepped result «data».new output.new ≡ step_of (given rom.now input.now) (record { m = m; «data» = «data».old; output = output.old }) }
-    ensures external { result.outside ≡ (plan_in (given rom.now input.now) (record { m = m; «data» = «data».old; output = output.old })).outside }
+    ensures outcome { stepped m result «data».new output.new ≡ step_of (given rom.now input.now) (record { m = m; «data» = «data».old; output = output.old }) }
+    ensures external { counted result ≡ (plan_in (given rom.now input.now) (record { m = m; «data» = «data».old; output = output.old })).outside }
     ensures stores { summary.new ≡ add_store (plan_in (given rom.now input.now) (record { m = m; «data» = «data».old; output = output.old })) summary.old }
 {
-    let p = plan_fetched(kinds, rom, &data[..], input, output.len(), m);
-    let next = p.m;
-    let answer = p.answer;
-    let write = p.write;
-    let outside = p.outside;
-    let ov = next.ov;
-    commit(write, data, output);
-    count_store(summary, write, ov);
-    Stepped {
-        m: next,
-        answer,
-        outside,
-    }
+    let pass = plan_fetched(kinds, &Lent::new(rom, &data[..], input, output.len()), m)?;
+    commit(pass.write, data, output);
+    count_store(summary, pass.write, pass.m.ov);
+    Ok(Stepped {
+        m: pass.m,
+        outside: pass.outside,
+    })
 }
 
 // Checks 1 and 2.
-fn check(m: Machine, rom: &[u16], data: &[u16], input: &[u16], output_length: usize) -> Answer
-    ensures { result ≡ checks_of (given rom.now input.now) «data».now output_length m }
+#[tactic(auto, unfolding(steps::specs::Table::checks_of, steps::specs::Table::check_rows, steps::specs::Rows::first_given))]
+fn check(m: Machine, lent: &Lent<'_>) -> Answer
+    ensures { result ≡ checks_of lent.now.given lent.now.«data» lent.now.output_length m }
 {
     if !m.in_range() {
         return Err(Refusal::CellOutOfRange);
     }
-    if !slices::slices_fit(m, rom, data, input, output_length) {
+    if !slices::slices_fit(m, lent) {
         return Err(Refusal::SlicesUnfit);
     }
     Ok(())
 }
 
 // Checks 1 and 2, and 14 of a summary that is lent.
-fn check_with(
-    summary: &[u16],
-    m: Machine,
-    rom: &[u16],
-    data: &[u16],
-    input: &[u16],
-    output_length: usize,
-) -> Answer
-    ensures { result ≡ checks_with summary.now (given rom.now input.now) «data».now output_length m }
+#[tactic(auto, using(steps::proofs::SummaryLaws::by_checks))]
+fn check_with(summary: &[u16], m: Machine, lent: &Lent<'_>) -> Answer
+    ensures { result ≡ checks_with summary.now lent.now.given lent.now.«data» lent.now.output_length m }
 {
-    let checked = check(m, rom, data, input, output_length);
-    if !is_done(checked) {
-        return checked;
-    }
+    check(m, lent)?;
     if !summary_fits(summary) {
         return Err(Refusal::SummaryUnfit);
     }
     Ok(())
+}
+
+// A run that is refused before its first step.
+fn not_begun(m: Machine, answer: Answer) -> Ran
+    ensures { result ≡ record { m = m; steps = 0; answer = answer; outside = none_outside } }
+{
+    Ran {
+        m,
+        steps: 0,
+        answer,
+        outside: Outside::NONE,
+    }
 }
 
 // A run whose stores are counted in the summary; where none is lent, it is an empty part of some array. Checks 1 and 2 are made once: no step that is done
@@ -153,46 +157,34 @@ fn run_counted(
     ensures external { result.outside ≡ outside_of (given rom.now input.now) budget (record { m = m; «data» = «data».old; output = output.old }) }
     ensures stores { summary.new ≡ tallied add_store (plans_of (given rom.now input.now) budget (record { m = m; «data» = «data».old; output = output.old })) summary.old }
 {
-    let checked = check(m, rom, &data[..], input, output.len());
-    if !is_done(checked) {
-        return Ran {
-            m,
-            steps: 0,
-            answer: checked,
-            outside: Outside {
-                reads: 0,
-                writes: 0,
-            },
-        };
+    let checked = check(m, &Lent::new(rom, &data[..], input, output.len()));
+    if checked.is_err() {
+        return not_begun(m, checked);
     }
     let kinds = kinds::kinds();
     let mut n = m;
-    let mut steps: u16 = 0;
     let mut totals: u32 = 0;
-    loop {
-        if budget <= steps {
-            break Ran {
-                m: n,
-                steps,
-                answer: Ok(()),
-                outside: apart(totals),
-            };
+    for steps in 0..budget {
+        match checked_step(&kinds, n, rom, data, input, output, summary) {
+            Ok(stepped) => {
+                n = stepped.m;
+                totals += in_one(stepped.outside);
+            }
+            Err(refusal) => {
+                return Ran {
+                    m: n,
+                    steps,
+                    answer: Err(refusal),
+                    outside: apart(totals),
+                };
+            }
         }
-        let s = checked_step(&kinds, n, rom, data, input, output, summary);
-        let answer = s.answer;
-        if !is_done(answer) {
-            let k = s.m;
-            break Ran {
-                m: k,
-                steps,
-                answer,
-                outside: apart(totals),
-            };
-        }
-        let outside = s.outside;
-        n = s.m;
-        steps += 1;
-        totals += in_one(outside);
+    }
+    Ran {
+        m: n,
+        steps: budget,
+        answer: Ok(()),
+        outside: apart(totals),
     }
 }
 
@@ -226,33 +218,32 @@ pub fn run_with(
     ensures external { result.outside ≡ outside_with summary.old (given rom.now input.now) budget (record { m = m; «data» = «data».old; output = output.old }) }
     ensures stores { summary.new ≡ summary_with summary.old (given rom.now input.now) budget (record { m = m; «data» = «data».old; output = output.old }) }
 {
-    let checked = check_with(&summary[..], m, rom, &data[..], input, output.len());
-    if !is_done(checked) {
-        return Ran {
-            m,
-            steps: 0,
-            answer: checked,
-            outside: Outside {
-                reads: 0,
-                writes: 0,
-            },
-        };
+    let checked = check_with(
+        &summary[..],
+        m,
+        &Lent::new(rom, &data[..], input, output.len()),
+    );
+    if checked.is_err() {
+        return not_begun(m, checked);
     }
     run_counted(m, rom, data, input, output, summary, budget)
 }
 
 // A run of one step: checks 1 and 2, and the step.
-pub fn step(m: Machine, rom: &[u16], data: &mut [u16], input: &[u16], output: &mut [u16]) -> Stepped
-    ensures outcome { stepped result «data».new output.new ≡ step_of (given rom.now input.now) (record { m = m; «data» = «data».old; output = output.old }) }
-    ensures external { result.outside ≡ (plan_in (given rom.now input.now) (record { m = m; «data» = «data».old; output = output.old })).outside }
+pub fn step(
+    m: Machine,
+    rom: &[u16],
+    data: &mut [u16],
+    input: &[u16],
+    output: &mut [u16],
+) -> Result<Stepped, Refusal>
+    ensures outcome { stepped m result «data».new output.new ≡ step_of (given rom.now input.now) (record { m = m; «data» = «data».old; output = output.old }) }
+    ensures external { counted result ≡ (plan_in (given rom.now input.now) (record { m = m; «data» = «data».old; output = output.old })).outside }
 {
     let ran = run(m, rom, data, input, output, 1);
-    let after = ran.m;
-    let answer = ran.answer;
-    let outside = ran.outside;
-    Stepped {
-        m: after,
-        answer,
-        outside,
-    }
+    ran.answer?;
+    Ok(Stepped {
+        m: ran.m,
+        outside: ran.outside,
+    })
 }

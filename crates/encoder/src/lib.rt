@@ -128,6 +128,7 @@ fn mode_word(x: Modes) -> u16
 }
 
 // The word of an instruction.
+#[tactic(auto, unfolding(encodings::specs::Encode::encode_of, encodings::specs::Encode::fields_of))]
 pub fn encode(i: Instruction) -> u16
     ensures { result ≡ encode_of i }
 {

@@ -1,47 +1,32 @@
 // The words of an operand and of a constant, below an upper byte.
 ghost use Rattle.std.specs.Prelude.{◌≡◌, ◌+◌, ◌*◌, ◌%◌};
-ghost use Rattle.encodings.specs.Encode.{modification_bits, next_bits, indirect_bits, is_indirect, address_bits};
+ghost use Rattle.encodings.specs.Encode.{next_bits, indirect_bits, is_indirect, address_bits};
 
-use operands::{Address, Indirect, Modification, NextArp};
-
-// Bits 6 to 4 of an indirect operand (Table 4-1).
-fn modification_bits(m: Modification) -> u8
-    ensures { result ≡ modification_bits m }
-{
-    match m {
-        Modification::None => 0,
-        Modification::Minus => 1,
-        Modification::Plus => 2,
-        Modification::MinusReversed => 4,
-        Modification::MinusIndex => 5,
-        Modification::PlusIndex => 6,
-        Modification::PlusReversed => 7,
-    }
-}
+use operands::{Address, Indirect};
 
 // Bits 3 to 0.
-fn next_bits(n: NextArp) -> u8
+#[tactic(auto, unfolding(encodings::specs::Encode::next_bits))]
+fn next_bits(n: Option<u8>) -> u8
     ensures { result ≡ next_bits n }
 {
     match n {
-        NextArp::Same => 0,
-        NextArp::To(r) => 8 + r % 8,
+        None => 0,
+        Some(r) => 8 + r % 8,
     }
 }
 
+#[tactic(auto, unfolding(encodings::specs::Encode::indirect_bits), using(crate::specs::OperandLaws::modification_lt, crate::specs::OperandLaws::next_lt))]
 fn indirect_bits(i: Indirect) -> u8
     ensures { result ≡ indirect_bits i }
 {
-    let m = i.modification;
-    let n = i.next;
-    modification_bits(m) * 16 + next_bits(n)
+    u8::from(i.modification) * 16 + next_bits(i.next)
 }
 
 // An upper byte and a constant.
 pub fn constant(upper: u8, k: u8) -> u16
     ensures { result ≡ upper * 256 + k % 256 }
 {
-    (upper as u16) * 256 + (k as u16)
+    u16::from(upper) * 256 + u16::from(k)
 }
 
 // An upper byte and 1DDD DDDD.
@@ -52,6 +37,7 @@ pub fn branching(upper: u8, i: Indirect) -> u16
 }
 
 // An upper byte and IDDD DDDD.
+#[tactic(auto, unfolding(encodings::specs::Encode::is_indirect, encodings::specs::Encode::address_bits))]
 pub fn addressed(upper: u8, a: Address) -> u16
     ensures { result ≡ (upper * 2 + is_indirect a % 2) * 128 + address_bits a % 128 }
 {

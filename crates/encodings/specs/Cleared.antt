@@ -4,8 +4,9 @@ use Rattle.std.proofs.Common.{◌∙◌, ap, arith, ltb→lt, lt-ltb, le-ltb}
 use Prim.Native.String.{String}
 use Rattle.instructions.specs.Every.{all, all_at, by_order}
 use Rattle.instructions.specs.Encoding.{pick, both, low_fits, address_mode_of, indirect_of, next_of, modification_of}
+use Rattle.operands.specs.Bits.{modification_bits}
 use Rattle.operands.specs.declared.Address.TheVariants as operand
-use Rattle.encodings.specs.Encode.{is_indirect, address_bits, indirect_bits, modification_bits, next_bits}
+use Rattle.encodings.specs.Encode.{is_indirect, address_bits, indirect_bits, next_bits}
 
 -- A low byte without the bits that are free: 2 to 0 of an indirect operand whose bit 3 is 0.
 unfoldable pub cleared : ℕ → ℕ

@@ -1,13 +1,10 @@
 -- The word of an instruction: the bits that its page prints, and in the place of each letter the bits of that field.
-use Rattle.std.specs.Prelude.{List, [], ◌∷◌, ℕ, zero, suc, ◌+◌, ◌-◌, ◌*◌, ◌/◌, ◌%◌, ◌^◌}
+use Rattle.std.specs.Prelude.{List, [], ◌∷◌, ℕ, zero, suc, ◌+◌, ◌-◌, ◌*◌, ◌/◌, ◌%◌, ◌^◌, Option, Some, None}
 use Prim.Native.String.{String, ◌++◌}
 use lib.Text.{eqt}
 use Rattle.instructions.specs.Encoding.{Page, pick, printed_at, lowest_of}
 use Rattle.instructions.specs.Pages.{pages}
-use Rattle.operands.specs.declared.Modification.{Modification}
-use Rattle.operands.specs.declared.Modification.TheVariants.{None, Minus, Plus, MinusReversed, MinusIndex, PlusIndex, PlusReversed}
-use Rattle.operands.specs.declared.NextArp.{NextArp}
-use Rattle.operands.specs.declared.NextArp.TheVariants.{Same, To}
+use Rattle.operands.specs.Bits.{modification_bits}
 use Rattle.operands.specs.declared.Indirect.{Indirect}
 use Rattle.operands.specs.declared.Address.{Address}
 use Rattle.operands.specs.declared.Address.TheVariants as operand
@@ -56,20 +53,10 @@ printed (r ∷ rs) n = pick (eqt r.name n) (text r) (printed rs n)
 unfoldable pub word_of : String × List (String × ℕ) → ℕ
 word_of page = bits_after (printed pages page.0) (letter_number page.1) 0 16
 
--- Bits 6 to 4 of an indirect operand (Table 4-1, 4-6).
-unfoldable pub modification_bits : Modification → ℕ
-modification_bits None = 0b000
-modification_bits Minus = 0b001
-modification_bits Plus = 0b010
-modification_bits MinusReversed = 0b100
-modification_bits MinusIndex = 0b101
-modification_bits PlusIndex = 0b110
-modification_bits PlusReversed = 0b111
-
 -- Bits 3 to 0: 1 and the next ARP; or 0, and 0 for the bits that are free then (4.1.2, 4-6).
-unfoldable pub next_bits : NextArp → ℕ
-next_bits Same = 0
-next_bits (To r) = 8 + r % 8
+unfoldable pub next_bits : Option ℕ → ℕ
+next_bits None = 0
+next_bits (Some r) = 8 + r % 8
 
 -- D of an indirect operand
 unfoldable pub indirect_bits : Indirect → ℕ

@@ -1,70 +1,57 @@
 // Prints the name and the line of each example file.
 #![tactic(auto)]
 
+use printing::print_replay;
 use std::fs::File;
 use std::io;
-use std::io::Read;
 use std::rt::Files;
 
-fn print_replay(rt: &impl Print, reader: &mut impl Read) -> io::Result<()> {
-    let mut file = [0; 16401];
-    let count = filling::fill(reader, &mut file)?;
-    let mut line = [0; 5145];
-    let end = replaying::replayed(&file, count, &mut line);
-    rt.write_all(&line[..end])
-}
-
-fn show(rt: &(impl Files + Print), name: &str) -> io::Result<()> {
-    print!(rt; "{name}: ")?;
-    let mut file = File::open(rt, name)?;
-    print_replay(rt, &mut file)
-}
-
 // Document 01's own file, and stacks of 127 and 128 frames with holding and without.
-fn show_stacks(rt: &(impl Files + Print)) -> io::Result<()> {
-    show(rt, "first")?;
-    show(rt, "frames-127-held")?;
-    show(rt, "frames-127-free")?;
-    show(rt, "frames-128-held")?;
-    show(rt, "frames-128-free")
-}
+const STACKS: [&str; 5] = [
+    "first",
+    "frames-127-held",
+    "frames-127-free",
+    "frames-128-held",
+    "frames-128-free",
+];
 
-fn show_programs(rt: &(impl Files + Print)) -> io::Result<()> {
-    show(rt, "convolution")?;
-    show(rt, "division")?;
-    show(rt, "copy")?;
-    show(rt, "copy-whole")
-}
+const PROGRAMS: [&str; 4] = ["convolution", "division", "copy", "copy-whole"];
 
 // The largest file, and one whose line is the longest.
-fn show_limits(rt: &(impl Files + Print)) -> io::Result<()> {
-    show(rt, "largest")?;
-    show(rt, "longest")
-}
+const LIMITS: [&str; 2] = ["largest", "longest"];
 
 // One for each refusal of a step that a file can reach.
-fn show_refused_steps(rt: &(impl Files + Print)) -> io::Result<()> {
-    show(rt, "refused-3")?;
-    show(rt, "refused-4")?;
-    show(rt, "refused-5")?;
-    show(rt, "refused-6")?;
-    show(rt, "refused-7")?;
-    show(rt, "refused-9")?;
-    show(rt, "refused-10")
-}
+const REFUSED_STEPS: [&str; 7] = [
+    "refused-3",
+    "refused-4",
+    "refused-5",
+    "refused-6",
+    "refused-7",
+    "refused-9",
+    "refused-10",
+];
 
-fn show_refused_files(rt: &(impl Files + Print)) -> io::Result<()> {
-    show(rt, "refused-20")?;
-    show(rt, "refused-21")?;
-    show(rt, "refused-22")?;
-    show(rt, "refused-22-largest")?;
-    show(rt, "refused-22-long")
+const REFUSED_FILES: [&str; 5] = [
+    "refused-20",
+    "refused-21",
+    "refused-22",
+    "refused-22-largest",
+    "refused-22-long",
+];
+
+fn show(rt: &(impl Files + Print), names: &[&str]) -> io::Result<()> {
+    for name in names {
+        print!(rt; "{name}: ")?;
+        let mut file = File::open(rt, name)?;
+        print_replay(&mut file, &mut io::writer(rt))?;
+    }
+    Ok(())
 }
 
 fn main(rt: HostRuntime) -> io::Result<()> {
-    show_stacks(&rt)?;
-    show_programs(&rt)?;
-    show_limits(&rt)?;
-    show_refused_steps(&rt)?;
-    show_refused_files(&rt)
+    show(&rt, &STACKS)?;
+    show(&rt, &PROGRAMS)?;
+    show(&rt, &LIMITS)?;
+    show(&rt, &REFUSED_STEPS)?;
+    show(&rt, &REFUSED_FILES)
 }

@@ -4,7 +4,7 @@ use Rattle.machine.specs.declared.Machine.{Machine}
 use Rattle.decoder.specs.ByTable.{decode_by}
 use Rattle.board.specs.Windows.{program_word}
 use Rattle.board.specs.Given.{Given}
-use Rattle.steps.specs.declared.Plan.{Plan}
+use Rattle.steps.specs.Plan.{Plan}
 use Rattle.steps.specs.Pass.{plan_by}
 use Rattle.steps.proofs.Stages.{decoded_plan}
 use Rattle.steps.specs.Table.{fetch_rows}

@@ -3,25 +3,26 @@
 
 ghost use Rattle.std.specs.Prelude.{◌≡◌, cond, not, ◌&&◌, ltb};
 ghost use Rattle.board.specs.Windows.{program_word};
-ghost use Rattle.board.specs.Given.{given};
+ghost use Rattle.steps.specs.Pass.{planned};
 ghost use Rattle.steps.proofs.Stages.{instruction_plan, decoded_plan};
 ghost use Rattle.fetching.specs.ByTable.{fetch_plan_by};
 
-use answers::Answer;
+use answers::Refusal;
+use board::Lent;
 use decoder::decode_by;
 use instructions::{Decoded, Instruction};
 use machine::Machine;
 use plans::{plan_pass, program_word};
-use refusals::{is_program_absent, refuse};
-use steps::Plan;
+use refusals::is_program_absent;
+use steps::Pass;
 use traits::traits_of;
 
 // The second word where the instruction has two, else 0.
-fn second_word<'a>(two: bool, cnf: u8, at: u16, rom: &'a [u16], data: &'a [u16]) -> u16
-    ensures { result ≡ cond two (program_word cnf at rom.now «data».now) 0 }
+fn second_word(two: bool, cnf: u8, at: u16, lent: &Lent<'_>) -> u16
+    ensures { result ≡ cond two (program_word cnf at lent.now.given.rom lent.now.«data») 0 }
 {
     if two {
-        return program_word(cnf, at, rom, data);
+        return program_word(cnf, at, lent.rom(), lent.data());
     }
     0
 }
@@ -30,68 +31,47 @@ fn second_word<'a>(two: bool, cnf: u8, at: u16, rom: &'a [u16], data: &'a [u16])
 fn is_unrepeatable(rptc: u16, repeatable: bool) -> bool
     ensures { result ≡ (ltb 0 rptc && not repeatable) }
 {
-    if 0 < rptc {
-        return !repeatable;
-    }
-    false
+    (0 < rptc) && !repeatable
 }
 
 // An instruction: answers 7 and 5 for the second word, then the pass.
-fn plan_instruction<'a>(
-    i: Instruction,
-    rom: &'a [u16],
-    data: &'a [u16],
-    input: &[u16],
-    output_length: usize,
-    m: Machine,
-) -> Plan
-    ensures { result ≡ instruction_plan i (given rom.now input.now) «data».now output_length m }
+#[tactic(auto, unfolding(steps::specs::Pass::plan_by, steps::specs::Table::repeat_rows, steps::proofs::Stages::instruction_plan, steps::specs::Table::not_repeatable, steps::specs::Table::second_absent, steps::specs::Table::second_word, steps::specs::Table::second_address))]
+fn plan_instruction(i: Instruction, lent: &Lent<'_>, m: Machine) -> Result<Pass, Refusal>
+    ensures { planned m result ≡ instruction_plan i lent.now.given lent.now.«data» lent.now.output_length m }
 {
     let t = traits_of(i);
     if is_unrepeatable(m.rptc, t.repeatable) {
-        return refuse(m, Err(Refusal::NotRepeatable));
+        return Err(Refusal::NotRepeatable);
     }
     let two = t.words == 2;
     let at = registers::wrapped_sum(m.pc, 1);
     if is_program_absent(two, m.cnf, at) {
-        return refuse(m, Err(Refusal::ProgramAbsent));
+        return Err(Refusal::ProgramAbsent);
     }
-    let second = second_word(two, m.cnf, at, rom, data);
-    plan_pass(i, t, second, rom, data, input, output_length, m)
+    let second = second_word(two, m.cnf, at, lent);
+    plan_pass(i, t, second, lent, m)
 }
 
 // Answers 3 and 4, then the instruction.
-fn plan_decoded<'a>(
-    d: Decoded,
-    rom: &'a [u16],
-    data: &'a [u16],
-    input: &[u16],
-    output_length: usize,
-    m: Machine,
-) -> Plan
-    ensures { result ≡ decoded_plan d (given rom.now input.now) «data».now output_length m }
+#[tactic(auto, unfolding(steps::proofs::Stages::decoded_plan, steps::specs::Table::encoding_rows, steps::specs::Table::instruction_rows, steps::specs::Step::page_plan, steps::specs::Pass::plan_by), using(steps::proofs::Stages::instruction_stages))]
+fn plan_decoded(d: Decoded, lent: &Lent<'_>, m: Machine) -> Result<Pass, Refusal>
+    ensures { planned m result ≡ decoded_plan d lent.now.given lent.now.«data» lent.now.output_length m }
 {
     match d {
-        Decoded::Built(i) => plan_instruction(i, rom, data, input, output_length, m),
-        Decoded::Unbuilt => refuse(m, Err(Refusal::NotBuilt)),
-        Decoded::Nothing => refuse(m, Err(Refusal::NoEncoding)),
+        Decoded::Built(i) => plan_instruction(i, lent, m),
+        Decoded::Unbuilt => Err(Refusal::NotBuilt),
+        Decoded::Nothing => Err(Refusal::NoEncoding),
     }
 }
 
 // Answer 5 for the first word, then what it decodes to by a table of kinds.
-pub fn plan_fetched<'a>(
-    kinds: &[u8],
-    rom: &'a [u16],
-    data: &'a [u16],
-    input: &[u16],
-    output_length: usize,
-    m: Machine,
-) -> Plan
-    ensures { result ≡ fetch_plan_by kinds.now (given rom.now input.now) «data».now output_length m }
+#[tactic(auto, unfolding(crate::specs::ByTable::fetch_plan_by, steps::specs::Table::fetch_rows, steps::specs::Pass::plan_by))]
+pub fn plan_fetched(kinds: &[u8], lent: &Lent<'_>, m: Machine) -> Result<Pass, Refusal>
+    ensures { planned m result ≡ fetch_plan_by kinds.now lent.now.given lent.now.«data» lent.now.output_length m }
 {
     if !regions::program_present(m.cnf, m.pc) {
-        return refuse(m, Err(Refusal::ProgramAbsent));
+        return Err(Refusal::ProgramAbsent);
     }
-    let word = program_word(m.cnf, m.pc, rom, data);
-    plan_decoded(decode_by(kinds, word), rom, data, input, output_length, m)
+    let word = program_word(m.cnf, m.pc, lent.rom(), lent.data());
+    plan_decoded(decode_by(kinds, word), lent, m)
 }

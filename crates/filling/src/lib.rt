@@ -14,6 +14,7 @@ pub fn fill<R: Read>(reader: &mut R, bytes: &mut [u8]) -> io::Result<usize>
     ensures first { IfOk result (λ n. Consumes (R.remaining reader.old) (R.remaining reader.new) (take n bytes.new)) }
     ensures ended { IfOk result (λ n. n < length bytes.new → IsAtEnd (R.remaining reader.new)) }
 {
+    // A loop over `read`: of a shorter input std's `read_exact` says nothing, and the methods that go to the end want a Vec.
     let mut filled = 0;
     while filled < bytes.len() {
         let count = reader.read(&mut bytes[filled..])?;

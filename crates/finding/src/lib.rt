@@ -10,18 +10,13 @@ use pages::Access;
 use steps::Outside;
 
 // The routine that finds a data word. A region that comes later is one case more in `data_region`.
+#[tactic(auto, unfolding(board::specs::Finding::found_at))]
 pub fn find_word(cnf: u8, data: &[u16], address: u32) -> Found
     ensures { result ≡ found_at cnf «data».now address }
 {
     let region = regions::data_region(cnf, address);
-    let i = address as usize;
-    if i < data.len() {
-        return Found {
-            word: data[i],
-            region,
-        };
-    }
-    Found { word: 0, region }
+    let word = data.get(address as usize).copied().unwrap_or(0);
+    Found { word, region }
 }
 
 // The region is worked out only for an instruction that makes an access.
@@ -45,17 +40,14 @@ pub fn outside_by(access: Access, region: Region) -> Outside
     ensures { result ≡ outside_by access region }
 {
     match access {
-        Access::None => Outside {
-            reads: 0,
-            writes: 0,
-        },
+        Access::None => Outside::NONE,
         Access::Reads => Outside {
             reads: regions::access_outside(region),
-            writes: 0,
+            ..Outside::NONE
         },
         Access::Writes => Outside {
-            reads: 0,
             writes: regions::access_outside(region),
+            ..Outside::NONE
         },
     }
 }

@@ -13,16 +13,89 @@ use filling::fill;
 use std::io;
 use std::io::Read;
 
+// A case has at most so many lines.
+const LINES_MAX: u32 = 1000;
+
+// Each case that is not there takes its time too.
+const CASES_MAX: u32 = 600;
+
+#[derive(Clone, Copy, Debug, PartialEq, Eq)]
+enum Kind {
+    Name,
+    Store,
+    Step,
+    Run,
+    RunWithResults,
+    Print,
+    End,
+    // Any other letter: nothing is done.
+    Unknown,
+}
+
+impl From<u8> for Kind {
+    fn from(letter: u8) -> Kind {
+        match letter {
+            b'N' => Kind::Name,
+            b'S' => Kind::Store,
+            b'T' => Kind::Step,
+            b'R' => Kind::Run,
+            b'W' => Kind::RunWithResults,
+            b'P' => Kind::Print,
+            b'E' => Kind::End,
+            _ => Kind::Unknown,
+        }
+    }
+}
+
 // What one line asks for.
-#[derive(Clone, Copy)]
+#[derive(Clone, Copy, Debug)]
 struct Line {
-    kind: u8,
+    kind: Kind,
     place: u32,
     value: u32,
 }
 
+impl From<&[u8; 32]> for Line {
+    fn from(text: &[u8; 32]) -> Line {
+        Line {
+            kind: Kind::from(text[0]),
+            place: number(&text[2..6]),
+            value: number(&text[7..15]),
+        }
+    }
+}
+
+// By hand, since what is no hexadecimal digit counts as some digit: every line is read.
+fn digit(byte: u8) -> u32
+    ensures { result < 16 }
+{
+    let low = u32::from(byte % 16);
+    if byte < 58 { low } else { (low + 9) % 16 }
+}
+
+// The number that hexadecimal digits spell.
+fn number(digits: &[u8]) -> u32 {
+    digits
+        .iter()
+        .fold(0, |n, &byte| n % 0x10000000 * 16 + digit(byte))
+}
+
+fn low_word(value: u32) -> u16 {
+    (value % 65536) as u16
+}
+
+fn put<T: Copy>(items: &mut [T], at: usize, item: T) {
+    if let Some(slot) = items.get_mut(at) {
+        *slot = item;
+    }
+}
+
+fn word_at(words: &[u16], at: usize) -> u32 {
+    u32::from(words.get(at).copied().unwrap_or(0))
+}
+
 // How a step or a run ended; only a run counts its steps, and only one with results its external reads and writes.
-#[derive(Clone, Copy)]
+#[derive(Clone, Copy, Debug, Default)]
 struct Run {
     answer: u32,
     steps: u32,
@@ -30,150 +103,110 @@ struct Run {
     writes: u32,
 }
 
-fn digit(b: u8) -> u32 {
-    let low = (b % 16) as u32;
-    if b < 58 { low } else { low + 9 }
-}
-
-// The number that hexadecimal digits spell.
-fn number(digits: &[u8]) -> u32 {
-    let mut n: u32 = 0;
-    for b in digits {
-        n = n % 0x10000000 * 16 + digit(*b) % 16;
-    }
-    n
-}
-
-fn word_of(value: u32) -> u16 {
-    (value % 65536) as u16
-}
-
-fn wide(word: u16) -> u32 {
-    word as u32
-}
-
-fn put_word(words: &mut [u16], at: u32, word: u16) {
-    let i = at as usize;
-    if i < words.len() {
-        words[i] = word;
-    }
-}
-
-fn put_cell(cells: &mut [u32], at: u32, value: u32) {
-    let i = at as usize;
-    if i < cells.len() {
-        cells[i] = value;
-    }
-}
-
-fn word_at(words: &[u16], at: u32) -> u32 {
-    let i = at as usize;
-    if i < words.len() {
-        return wide(words[i]);
-    }
-    0
-}
-
-fn cell_at(cells: &[u32], at: u32) -> u32 {
-    let i = at as usize;
-    if i < cells.len() {
-        return cells[i];
-    }
-    0
-}
-
-// The places of make.py, by their first digit: data memory, program memory, input words, words sent, cells.
-fn store(
-    a: Line,
-    data: &mut [u16; 4096],
-    rom: &mut [u16; 4096],
-    input: &mut [u16; 4],
-    output: &mut [u16; 4],
-    cells: &mut [u32; CELLS],
-) {
-    let at = a.place % 0x1000;
-    let word = word_of(a.value);
-    match a.place / 0x1000 {
-        0 => put_word(data, at, word),
-        1 => put_word(rom, at, word),
-        2 => put_word(input, at, word),
-        3 => put_word(output, at, word),
-        _ => put_cell(cells, at, a.value),
-    }
-}
-
-// What stands in a place; behind the cells, the last answer and what the last run counted.
-fn place_of(
-    place: u32,
+// A machine's cells, what it is lent, and how its last step or run ended.
+#[derive(Drop)]
+struct Board {
+    cells: [u32; CELLS],
+    rom: [u16; 4096],
+    data: [u16; 4096],
+    input: [u16; 4],
+    output: [u16; 4],
     last: Run,
-    data: &[u16; 4096],
-    rom: &[u16; 4096],
-    output: &[u16; 4],
-    cells: &[u32; CELLS],
-) -> u32 {
-    let at = place % 0x1000;
-    match place / 0x1000 {
-        0 => word_at(data, at),
-        1 => word_at(rom, at),
-        3 => word_at(output, at),
-        4 => cell_at(cells, at),
-        5 => last.answer,
-        6 => last.steps,
-        7 => last.reads,
-        _ => last.writes,
-    }
 }
 
-fn step_cells(
-    data: &mut [u16; 4096],
-    rom: &[u16; 4096],
-    input: &[u16; 4],
-    output: &mut [u16; 4],
-    cells: &mut [u32; CELLS],
-) -> Run {
-    let answer = crowmitten_step(cells, rom, data, input, output);
-    Run {
-        answer,
-        steps: 0,
-        reads: 0,
-        writes: 0,
+impl Board {
+    // After reset, with memories that are all 0.
+    fn reset() -> Board {
+        let mut cells = [0; CELLS];
+        crowmitten_reset(&mut cells);
+        Board {
+            cells,
+            rom: [0; 4096],
+            data: [0; 4096],
+            input: [0; 4],
+            output: [0; 4],
+            last: Run::default(),
+        }
     }
-}
 
-fn run_cells(
-    budget: u16,
-    data: &mut [u16; 4096],
-    rom: &[u16; 4096],
-    input: &[u16; 4],
-    output: &mut [u16; 4],
-    cells: &mut [u32; CELLS],
-) -> Run {
-    let mut steps: u32 = 0;
-    let answer = crowmitten_run(cells, rom, data, input, output, budget, &mut steps);
-    Run {
-        answer,
-        steps,
-        reads: 0,
-        writes: 0,
+    fn step(&mut self) {
+        let answer = crowmitten_step(
+            &mut self.cells,
+            &self.rom,
+            &mut self.data,
+            &self.input,
+            &mut self.output,
+        );
+        self.last = Run {
+            answer,
+            ..Run::default()
+        };
     }
-}
 
-// The results hold other numbers before, so that those of a refusal are seen to be written.
-fn run_with_results(
-    budget: u16,
-    data: &mut [u16; 4096],
-    rom: &[u16; 4096],
-    input: &[u16; 4],
-    output: &mut [u16; 4],
-    cells: &mut [u32; CELLS],
-) -> Run {
-    let mut results = [7u32; RESULTS];
-    let answer = crowmitten_run_with(cells, rom, data, input, output, budget, &mut results);
-    Run {
-        answer,
-        steps: results[0],
-        reads: results[1],
-        writes: results[2],
+    fn run(&mut self, budget: u16) {
+        let mut steps = 0;
+        let answer = crowmitten_run(
+            &mut self.cells,
+            &self.rom,
+            &mut self.data,
+            &self.input,
+            &mut self.output,
+            budget,
+            &mut steps,
+        );
+        self.last = Run {
+            answer,
+            steps,
+            ..Run::default()
+        };
+    }
+
+    // The results hold other numbers before, so that those of a refusal are seen to be written.
+    fn run_with_results(&mut self, budget: u16) {
+        let mut results = [7; RESULTS];
+        let answer = crowmitten_run_with(
+            &mut self.cells,
+            &self.rom,
+            &mut self.data,
+            &self.input,
+            &mut self.output,
+            budget,
+            &mut results,
+        );
+        self.last = Run {
+            answer,
+            steps: results[0],
+            reads: results[1],
+            writes: results[2],
+        };
+    }
+
+    // The places of make.py, by their first digit: data memory, program memory, input words, words sent, cells.
+    fn store(&mut self, place: u32, value: u32) {
+        let at = (place % 0x1000) as usize;
+        let word = low_word(value);
+        match place / 0x1000 {
+            0 => put(&mut self.data, at, word),
+            1 => put(&mut self.rom, at, word),
+            2 => put(&mut self.input, at, word),
+            3 => put(&mut self.output, at, word),
+            _ => put(&mut self.cells, at, value),
+        }
+    }
+
+    // What stands in a place; behind the cells, the last answer and what the last run counted.
+    fn shown(&self, place: u32) -> u32 {
+        let at = (place % 0x1000) as usize;
+        match place / 0x1000 {
+            0 => word_at(&self.data, at),
+            1 => word_at(&self.rom, at),
+            3 => word_at(&self.output, at),
+            4 => self.cells.get(at).copied().unwrap_or(0),
+            5 => self.last.answer,
+            6 => self.last.steps,
+            7 => self.last.reads,
+            _ => self.last.writes,
+        }
     }
 }
 
@@ -183,114 +216,54 @@ fn print_hex(rt: &impl Print, n: u32, width: u32) -> io::Result<()> {
     print!(rt; "{n:0width$x}")
 }
 
-// What a line asks for; how the last step or run ended.
-fn act(
-    rt: &impl Print,
-    a: Line,
-    last: Run,
-    data: &mut [u16; 4096],
-    rom: &mut [u16; 4096],
-    input: &mut [u16; 4],
-    output: &mut [u16; 4],
-    cells: &mut [u32; CELLS],
-) -> io::Result<Run> {
-    if a.kind == b'T' {
-        return Ok(step_cells(data, rom, input, output, cells));
+fn act(rt: &impl Print, board: &mut Board, line: Line) -> io::Result<()> {
+    match line.kind {
+        Kind::Store => board.store(line.place, line.value),
+        Kind::Step => board.step(),
+        Kind::Run => board.run(low_word(line.value)),
+        Kind::RunWithResults => board.run_with_results(low_word(line.value)),
+        Kind::Print => print_hex(rt, board.shown(line.place), line.value)?,
+        Kind::Name | Kind::End | Kind::Unknown => {}
     }
-    if a.kind == b'R' {
-        return Ok(run_cells(word_of(a.value), data, rom, input, output, cells));
-    }
-    if a.kind == b'W' {
-        return Ok(run_with_results(word_of(a.value), data, rom, input, output, cells));
-    }
-    if a.kind == b'S' {
-        store(a, data, rom, input, output, cells);
-        return Ok(last);
-    }
-    if a.kind == b'P' {
-        let shown = place_of(a.place, last, data, rom, output, cells);
-        print_hex(rt, shown, a.value)?;
-    }
-    Ok(last)
+    Ok(())
 }
 
 // The line's label: a case's name, or a cell's.
-fn print_label(rt: &impl Print, kind: u8, text: [u8; 32]) -> io::Result<()> {
-    if kind == b'N' {
-        rt.write_all(&text[16..31])?;
+fn print_label(rt: &impl Print, kind: Kind, text: &[u8; 32]) -> io::Result<()> {
+    match kind {
+        Kind::Name => rt.write_all(&text[16..31]),
+        Kind::Print => rt.write_all(&text[16..23]),
+        Kind::End => rt.write_all(b"\n"),
+        _ => Ok(()),
     }
-    if kind == b'P' {
-        rt.write_all(&text[16..23])?;
-    }
-    if kind == b'E' {
-        rt.write_all(b"\n")?;
-    }
-    Ok(())
 }
 
-// The next line, its label printed; where there is none, the end of a case.
-fn next_line(rt: &impl Print, reader: &mut impl Read) -> io::Result<Line> {
-    let mut text = [0u8; 32];
-    if fill(reader, &mut text)? < 32 {
-        return Ok(Line {
-            kind: b'E',
-            place: 0,
-            value: 0,
-        });
+// The next line, its label printed; None where there is none.
+fn next_line(rt: &impl Print, reader: &mut impl Read) -> io::Result<Option<Line>> {
+    let mut text = [0; 32];
+    if fill(reader, &mut text)? < text.len() {
+        return Ok(None);
     }
-    let kind = text[0];
-    print_label(rt, kind, text)?;
-    Ok(Line {
-        kind,
-        place: number(&text[2..6]),
-        value: number(&text[7..15]),
-    })
+    let line = Line::from(&text);
+    print_label(rt, line.kind, &text)?;
+    Ok(Some(line))
 }
 
-// How many lines a case may still have: none after its end.
-fn lines_left(left: u32, kind: u8) -> u32
-    requires { 0 < left }
-    ensures { result < left }
-{
-    if kind == b'E' { 0 } else { left - 1 }
-}
-
-// One case, with memories of its own that are all 0. It has at most 1000 lines.
+// One case, on a board of its own: up to its end, or where no line follows.
 fn case(rt: &impl Print, reader: &mut impl Read) -> io::Result<()> {
-    let mut data = [0u16; 4096];
-    let mut rom = [0u16; 4096];
-    let mut input = [0u16; 4];
-    let mut output = [0u16; 4];
-    let mut cells = [0u32; CELLS];
-    crowmitten_reset(&mut cells);
-    let mut last = Run {
-        answer: 0,
-        steps: 0,
-        reads: 0,
-        writes: 0,
-    };
-    let mut left: u32 = 1000;
-    while 0 < left {
-        let a = next_line(rt, reader)?;
-        left = lines_left(left, a.kind);
-        last = act(
-            rt,
-            a,
-            last,
-            &mut data,
-            &mut rom,
-            &mut input,
-            &mut output,
-            &mut cells,
-        )?;
+    let mut board = Board::reset();
+    for _ in 0..LINES_MAX {
+        match next_line(rt, reader)? {
+            Some(line) if line.kind != Kind::End => act(rt, &mut board, line)?,
+            _ => break,
+        }
     }
     Ok(())
 }
 
-// At most 600 cases: each one that is not there takes its time too.
 fn main(rt: HostRuntime) -> io::Result<()> {
     let mut stdin = rt.stdin();
-    for _ in 0..600 {
+    for _ in 0..CASES_MAX {
         case(&rt, &mut stdin)?;
     }
     Ok(())

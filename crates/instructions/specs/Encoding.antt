@@ -1,11 +1,9 @@
 -- How a page of section 4.3 prints an encoding: which words it has, and what its fields and its operand are.
-use Rattle.std.specs.Prelude.{Bool, true, false, not, List, [], ◌∷◌, ℕ, zero, suc, ◌+◌, ◌-◌, ◌/◌, ◌%◌, ◌^◌, eqb, ltb, leb}
+use Rattle.std.specs.Prelude.{Bool, true, false, not, List, [], ◌∷◌, ℕ, zero, suc, ◌+◌, ◌-◌, ◌/◌, ◌%◌, ◌^◌, eqb, ltb, leb, Option, Some, None}
 use Prim.Native.String.{String, ◌++◌, len, slice}
 use lib.Text.{eqt}
 use Rattle.operands.specs.declared.Modification.{Modification}
-use Rattle.operands.specs.declared.Modification.TheVariants.{None, Minus, Plus, MinusReversed, MinusIndex, PlusIndex, PlusReversed}
-use Rattle.operands.specs.declared.NextArp.{NextArp}
-use Rattle.operands.specs.declared.NextArp.TheVariants.{Same, To}
+use Rattle.operands.specs.declared.Modification.TheVariants.{Minus, Plus, MinusReversed, MinusIndex, PlusIndex, PlusReversed}
 use Rattle.operands.specs.declared.Indirect.{Indirect}
 use Rattle.operands.specs.declared.Address.{Address}
 use Rattle.operands.specs.declared.Address.TheVariants as operand
@@ -66,7 +64,7 @@ under t n b c = b / 2 ^ lowest_of t c n 0 % 2 ^ width_of t c n
 -- Bits 6 to 4 of an indirect operand (Table 4-1, 4-6); 011 is reserved.
 abbrev pub modifications : List (ℕ × Modification)
 modifications =
-    (0b000, None) ∷
+    (0b000, Modification.None) ∷
     (0b001, Minus) ∷
     (0b010, Plus) ∷
     (0b100, MinusReversed) ∷
@@ -76,11 +74,11 @@ modifications =
     []
 
 unfoldable pub modification_of : ℕ → Modification
-modification_of bits = find None modifications bits
+modification_of bits = find Modification.None modifications bits
 
 -- Bit 3, and bits 2 to 0, which are free where bit 3 is 0 (4.1.2, 4-6).
-unfoldable pub next_of : ℕ → NextArp
-next_of low = pick (eqb (low / 8 % 2) 1) (To (low % 8)) Same
+unfoldable pub next_of : ℕ → Option ℕ
+next_of low = pick (eqb (low / 8 % 2) 1) (Some (low % 8)) None
 
 -- the indirect operand that a low byte is
 unfoldable pub indirect_of : ℕ → Indirect

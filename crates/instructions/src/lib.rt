@@ -4,7 +4,7 @@
 use operands::{Address, Indirect};
 
 // A shift stands first where a page has one; the constants are of 8 bits.
-#[derive(Clone, Copy)]
+#[derive(Clone, Copy, Debug, PartialEq, Eq)]
 pub enum Accumulator {
     Add(u8, Address),
     Sub(u8, Address),
@@ -32,7 +32,7 @@ pub enum Accumulator {
 }
 
 // MPYK's constant is its 13 bits, unsigned; SPM's is the new PM.
-#[derive(Clone, Copy)]
+#[derive(Clone, Copy, Debug, PartialEq, Eq)]
 pub enum Multiplier {
     Lt(Address),
     Lta(Address),
@@ -56,7 +56,7 @@ pub enum Multiplier {
 }
 
 // An auxiliary register stands first where a page has one; LDPK's constant is of 9 bits.
-#[derive(Clone, Copy)]
+#[derive(Clone, Copy, Debug, PartialEq, Eq)]
 pub enum Auxiliary {
     Lar(u8, Address),
     Sar(u8, Address),
@@ -68,7 +68,7 @@ pub enum Auxiliary {
     Ldpk(u16),
 }
 
-#[derive(Clone, Copy)]
+#[derive(Clone, Copy, Debug, PartialEq, Eq)]
 pub enum Branches {
     B(Indirect),
     Banz(Indirect),
@@ -85,14 +85,14 @@ pub enum Branches {
 }
 
 // A port stands first.
-#[derive(Clone, Copy)]
+#[derive(Clone, Copy, Debug, PartialEq, Eq)]
 pub enum Transfers {
     Dmov(Address),
     In(u8, Address),
     Out(u8, Address),
 }
 
-#[derive(Clone, Copy)]
+#[derive(Clone, Copy, Debug, PartialEq, Eq)]
 pub enum Modes {
     Sovm,
     Rovm,
@@ -106,7 +106,7 @@ pub enum Modes {
     Pop,
 }
 
-#[derive(Clone, Copy)]
+#[derive(Clone, Copy, Debug, PartialEq, Eq)]
 pub enum Instruction {
     Accumulator(Accumulator),
     Multiplier(Multiplier),
@@ -116,8 +116,9 @@ pub enum Instruction {
     Modes(Modes),
 }
 
-// What a word is: an instruction that is built, one that is published and not built, or in no encoding.
-#[derive(Clone, Copy)]
+// What a word is: an instruction that is built, one that is published and not built, or in no encoding. Three cases, of which none is
+// an error of the decoder, so it is neither an Option nor a Result.
+#[derive(Clone, Copy, Debug, PartialEq, Eq)]
 pub enum Decoded {
     Built(Instruction),
     Unbuilt,

@@ -24,6 +24,7 @@ const KINDS: [u8; 256] = [
 ];
 
 // The table, for callers that decode more than one word: made once, it is lent to each `decode_by`.
+#[tactic(auto, unfolding(crate::specs::Table::kind_table))]
 pub fn kinds() -> [u8; 256]
     ensures { result ≡ kind_table }
 {
@@ -31,14 +32,16 @@ pub fn kinds() -> [u8; 256]
 }
 
 // A low byte is IDDD DDDD where its modification is not the reserved one.
+#[tactic(auto, unfolding(instructions::specs::Encoding::low_fits))]
 pub fn is_operand(low: u8) -> bool
     ensures { result ≡ low_fits "IDDD DDDD" low }
 {
     low / 16 != 11
 }
 
+#[tactic(auto, unfolding(instructions::specs::Encoding::low_fits))]
 pub fn is_indirect(low: u8) -> bool
     ensures { result ≡ low_fits "1DDD DDDD" low }
 {
-    (low / 128 % 2 == 1) & (low / 16 != 11)
+    low >= 128 && low / 16 != 11
 }

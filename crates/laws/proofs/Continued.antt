@@ -26,7 +26,7 @@ use Rattle.board.specs.SliceLaws.{longer_fits, port_left}
 use Rattle.steps.specs.Rows.{NoneHolds}
 use Rattle.steps.specs.Refusals.{takes, input_dry, pass_rows, access_rows, rest_rows}
 use Rattle.steps.specs.Pass.{words_read, effect_of, passed_machine, passed_write, performed}
-use Rattle.steps.specs.declared.Plan.{Plan}
+use Rattle.steps.specs.Plan.{Plan}
 use Rattle.steps.specs.World.{World}
 use Rattle.steps.specs.Table.{decoded_at, second_word, table_for, check_rows, fetch_rows, encoding_rows, instruction_rows, repeat_rows}
 use Rattle.steps.specs.Step.{after_store, step_of, one_more, run_of}

@@ -17,7 +17,7 @@ use Rattle.board.specs.Finding.{found_at}
 use Rattle.board.specs.Given.{Given}
 use Rattle.board.specs.Regions.{within, data_region, move_allowed, access_outside}
 use Rattle.board.specs.RegionLaws.{outside_within, on_chip_not_outside, moves}
-use Rattle.steps.specs.declared.Plan.{Plan}
+use Rattle.steps.specs.Plan.{Plan}
 use Rattle.steps.specs.declared.Write.TheVariants as Write
 use Rattle.steps.specs.OperandFound.{operand_found, found_for, outside_by}
 use Rattle.steps.specs.Stores.{write_of}

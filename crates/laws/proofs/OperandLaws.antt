@@ -1,10 +1,8 @@
 -- An operand's modification changes registers, ARP and ARB: what programs work with besides is as it was.
-use Rattle.std.specs.Prelude.{◌≡◌, refl}
+use Rattle.std.specs.Prelude.{◌≡◌, refl, ℕ, Option, Some, None}
 use Rattle.machine.specs.declared.Machine.{Machine}
+use Rattle.operands.specs.declared.Address.{Address}
 use Rattle.operands.specs.declared.Address.TheVariants as Mode
-use Rattle.operands.specs.declared.NextArp.{NextArp}
-use Rattle.operands.specs.declared.NextArp.TheVariants as Next
-use Rattle.pages.specs.declared.Operand.{Operand}
 use Rattle.pages.specs.Addressing.{pointed, modified, addressed}
 
 -- the cells that programs work with besides
@@ -21,15 +19,15 @@ pub record Alike (m n : Machine) : Type 0 where
 alike : (m : Machine) → Alike m m
 alike m = record { acc = refl; p = refl; ov = refl; ovm = refl; pm = refl; cnf = refl; pc = refl; rptc = refl }
 
-pointed_alike : (next : NextArp) (m n : Machine) → Alike m n → Alike m (pointed next n)
+pointed_alike : (next : Option ℕ) (m n : Machine) → Alike m n → Alike m (pointed next n)
 unfolding pointed
-pointed_alike Next.Same m n a = a
-pointed_alike (Next.To arp) m n a = record { acc = a.acc; p = a.p; ov = a.ov; ovm = a.ovm; pm = a.pm; cnf = a.cnf; pc = a.pc; rptc = a.rptc }
+pointed_alike None m n a = a
+pointed_alike (Some arp) m n a = record { acc = a.acc; p = a.p; ov = a.ov; ovm = a.ovm; pm = a.pm; cnf = a.cnf; pc = a.pc; rptc = a.rptc }
 
 -- an operand's modification touches none of them
-pub operand_alike : (o : Operand) (m : Machine) → Alike m (addressed o m)
+pub operand_alike : (o : Option Address) (m : Machine) → Alike m (addressed o m)
 unfolding addressed modified
-operand_alike Operand.Nothing m = alike m
-operand_alike (Operand.At (Mode.Direct offset)) m = alike m
-operand_alike (Operand.At (Mode.Indirect i)) m =
+operand_alike None m = alike m
+operand_alike (Some (Mode.Direct offset)) m = alike m
+operand_alike (Some (Mode.Indirect i)) m =
     pointed_alike i.next m _ (record { acc = refl; p = refl; ov = refl; ovm = refl; pm = refl; cnf = refl; pc = refl; rptc = refl })

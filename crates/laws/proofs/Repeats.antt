@@ -1,5 +1,5 @@
 -- What every pass of a repeatable instruction does: proofs.
-use Rattle.std.specs.Prelude.{◌≡◌, Bool, false, cond, ◌&&◌, List, ℕ, suc, ◌-◌, ◌≤◌, ltb, length}
+use Rattle.std.specs.Prelude.{◌≡◌, Bool, false, cond, ◌&&◌, List, ℕ, suc, ◌-◌, ◌≤◌, ltb, length, None, Option, Some}
 use Rattle.std.proofs.Math.Path.{refl, sym, ap}
 use Rattle.std.proofs.Common.{◌∙◌, arith, lt-ltb}
 use Rattle.std.proofs.Math.Bool.{true, not}
@@ -30,13 +30,10 @@ use Rattle.pages.specs.AuxiliaryPages.{LAR, SAR, LARK, MAR, ADRK, SBRK, LDP, LDP
 use Rattle.pages.specs.ModesPages.{SOVM, ROVM, SSXM, RSXM, CNFD, CNFP, RPT, RPTK, PUSH, POP}
 use Rattle.pages.specs.TransfersPages.{DMOV, IN, OUT}
 use Rattle.instructions.specs.declared.Decoded.TheVariants.{Built}
-use Rattle.operands.specs.declared.NextArp.{NextArp}
-use Rattle.operands.specs.declared.NextArp.TheVariants.{Same, To}
+use Rattle.operands.specs.declared.Address.{Address}
 use Rattle.operands.specs.declared.Address.TheVariants as Mode
 use Rattle.pages.specs.declared.Effect.{Effect}
-use Rattle.pages.specs.declared.Jump.TheVariants as Jump
 use Rattle.pages.specs.Passes.{destination, followed}
-use Rattle.pages.specs.declared.Operand.{Operand}
 use Rattle.pages.specs.declared.Traits.{Traits}
 use Rattle.pages.specs.Traits.{accumulator_traits, multiplier_traits, auxiliary_traits, branches_traits, transfers_traits, modes_traits, traits_of}
 use Rattle.pages.specs.Addressing.{pointed, modified, addressed, address_of}
@@ -63,7 +60,7 @@ counted_at m n pc = with_pc (with_rptc m n) pc
 
 -- what a rule gives that neither reads nor changes RPTC and PC, and sends PC nowhere
 abbrev uncounted : Effect → ℕ → ℕ → Effect
-uncounted e n pc = record { m = counted_at e.m n pc; store = e.store; jump = Jump.Past }
+uncounted e n pc = record { m = counted_at e.m n pc; store = e.store; jump = None }
 
 accumulator_counted : (i : Accumulator) (m : Machine) (w : ℕ) (n pc : ℕ) → (accumulator_traits i).repeatable ≡ true
     → accumulator_rule i (counted_at m n pc) w ≡ uncounted (accumulator_rule i m w) n pc
@@ -176,22 +173,22 @@ rule_counted (Family.Modes i) before m words n pc h = modes_counted i m words.op
 
 -- ---- operands and words read
 
-pointed_counted : (next : NextArp) (m : Machine) (n pc : ℕ) → pointed next (counted_at m n pc) ≡ counted_at (pointed next m) n pc
+pointed_counted : (next : Option ℕ) (m : Machine) (n pc : ℕ) → pointed next (counted_at m n pc) ≡ counted_at (pointed next m) n pc
 unfolding pointed
-pointed_counted Same m n pc = refl
-pointed_counted (To arp) m n pc = refl
+pointed_counted None m n pc = refl
+pointed_counted (Some arp) m n pc = refl
 
-addressed_counted : (o : Operand) (m : Machine) (n pc : ℕ) → addressed o (counted_at m n pc) ≡ counted_at (addressed o m) n pc
+addressed_counted : (o : Option Address) (m : Machine) (n pc : ℕ) → addressed o (counted_at m n pc) ≡ counted_at (addressed o m) n pc
 unfolding addressed modified
-addressed_counted Operand.Nothing m n pc = refl
-addressed_counted (Operand.At (Mode.Direct offset)) m n pc = refl
-addressed_counted (Operand.At (Mode.Indirect operand)) m n pc = pointed_counted operand.next _ n pc
+addressed_counted None m n pc = refl
+addressed_counted (Some (Mode.Direct offset)) m n pc = refl
+addressed_counted (Some (Mode.Indirect operand)) m n pc = pointed_counted operand.next _ n pc
 
-address_counted : (o : Operand) (m : Machine) (n pc : ℕ) → address_of o (counted_at m n pc) ≡ address_of o m
+address_counted : (o : Option Address) (m : Machine) (n pc : ℕ) → address_of o (counted_at m n pc) ≡ address_of o m
 unfolding address_of
-address_counted Operand.Nothing m n pc = refl
-address_counted (Operand.At (Mode.Direct offset)) m n pc = refl
-address_counted (Operand.At (Mode.Indirect operand)) m n pc = refl
+address_counted None m n pc = refl
+address_counted (Some (Mode.Direct offset)) m n pc = refl
+address_counted (Some (Mode.Indirect operand)) m n pc = refl
 
 found_counted : (t : Traits) («data» : List ℕ) (m : Machine) (n pc : ℕ) → found_for t «data» (counted_at m n pc) ≡ found_for t «data» m
 unfolding found_for
@@ -212,7 +209,7 @@ module _ (i : Instruction) (h : (traits_of i).repeatable ≡ true) (second : ℕ
 
   -- the machine after the pass, with RPTC n before it
   passed_with : (n : ℕ) → passed_machine (traits_of i) i second g «data» (counted_at m n m.pc)
-      ≡ followed (counted_at (effect_of (traits_of i) i second g «data» m).m n m.pc) Jump.Past (traits_of i).words true
+      ≡ followed (counted_at (effect_of (traits_of i) i second g «data» m).m n m.pc) None (traits_of i).words true
   unfolding passed_machine
   passed_with n = rw (effect_counted n m.pc, h)
 
@@ -220,18 +217,18 @@ module _ (i : Instruction) (h : (traits_of i).repeatable ≡ true) (second : ℕ
   unfolding passed_write
   written_with n = rw (effect_counted n m.pc, found_counted (traits_of i) «data» m n m.pc, address_counted (traits_of i).operand m n m.pc)
 
-follows_on : (m : Machine) (n pc words : ℕ) → followed (counted_at m (suc n) pc) Jump.Past words true ≡ with_mid (with_rptc (with_pc m pc) n) 1
+follows_on : (m : Machine) (n pc words : ℕ) → followed (counted_at m (suc n) pc) None words true ≡ with_mid (with_rptc (with_pc m pc) n) 1
 unfolding followed
 follows_on m n pc words =
     let a : ltb 0 (suc n) ≡ true = lt-ltb 0 (suc n) (omega arith) in
     let b : suc n - 1 ≡ n = omega arith in
     rw (a, b)
 
-follows_last : (m : Machine) (pc words : ℕ) → followed (counted_at m 0 pc) Jump.Past words true ≡ with_pc (with_mid (with_rptc m 0) 0) (wrapped_sum pc words)
+follows_last : (m : Machine) (pc words : ℕ) → followed (counted_at m 0 pc) None words true ≡ with_pc (with_mid (with_rptc m 0) 0) (wrapped_sum pc words)
 unfolding followed destination
 follows_last m pc words = refl
 
-follows_work : (m : Machine) (n pc words : ℕ) → with_pc (with_mid (with_rptc (followed (counted_at m n pc) Jump.Past words true) 0) 0) 0 ≡ with_pc (with_mid (with_rptc m 0) 0) 0
+follows_work : (m : Machine) (n pc words : ℕ) → with_pc (with_mid (with_rptc (followed (counted_at m n pc) None words true) 0) 0) 0 ≡ with_pc (with_mid (with_rptc m 0) 0) 0
 unfolding followed
 follows_work m n pc words = by (ltb 0 n) _ _
   where
@@ -299,7 +296,7 @@ module _ (g : Given) (w : World) (i : Instruction) (d : decoded_at g w.«data» 
     (e : (step_of g w).answer ≡ Done) where
   -- the machine after the step, by the RPTC before it
   machine_after : (n : ℕ) → w.m.rptc ≡ n
-      → (step_of g w).world.m ≡ followed (counted_at (effect_at g w i).m n w.m.pc) Jump.Past (traits_of i).words true
+      → (step_of g w).world.m ≡ followed (counted_at (effect_at g w i).m n w.m.pc) None (traits_of i).words true
   unfolding after_store performed
   machine_after n f =
       rw (← f, step_world g w i d e)

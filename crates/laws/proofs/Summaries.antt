@@ -15,7 +15,7 @@ use Rattle.answers.specs.Numbers.{number_of, is_done}
 use Rattle.board.specs.Given.{Given}
 use Rattle.board.specs.Regions.{within, data_region, move_allowed}
 use Rattle.board.specs.RegionLaws.{bounds}
-use Rattle.steps.specs.declared.Plan.{Plan}
+use Rattle.steps.specs.Plan.{Plan}
 use Rattle.steps.specs.declared.Write.{Write}
 use Rattle.steps.specs.declared.Write.TheVariants as Write
 use Rattle.steps.proofs.StoreLaws.{WriteFits}

@@ -25,7 +25,7 @@ use Rattle.board.specs.Slices.{slices_fit}
 use Rattle.board.specs.Windows.{window_start}
 use Rattle.board.specs.Given.{Given}
 use Rattle.steps.specs.declared.Outside.{Outside}
-use Rattle.steps.specs.declared.Plan.{Plan}
+use Rattle.steps.specs.Plan.{Plan}
 use Rattle.steps.specs.declared.Write.{Write}
 use Rattle.steps.specs.Rows.{Row, row, first_given, NoneHolds}
 use Rattle.steps.specs.OperandFound.{found_for, none_outside}

@@ -45,6 +45,12 @@ pub line_of_lem : (answer : Answer) (steps : ℕ) (m : Machine) (output : List �
 unfolding line_of
 line_of_lem answer steps m output = line_put_lem (number_of answer) steps m.pc m.acc m.ov (words_sent m output)
 
+pub run_put : (answer : Answer) (steps : ℕ) (m : Machine) (output bytes : List ℕ) {a s p o next : ℕ} {words after : List ℕ}
+    → a ≡ number_of answer → s ≡ steps → p ≡ m.pc → o ≡ m.ov → words ≡ words_sent m output
+    → (next ≡ length_in (line_put a s p m.acc o words) bytes) × (after ≡ line_in (line_put a s p m.acc o words) bytes)
+    → (next ≡ length_in (line_of answer steps m output) bytes) × (after ≡ line_in (line_of answer steps m output) bytes)
+run_put answer steps m output bytes ea es ep eo ew put = rw line_of_lem (rw (ea, es, ep, eo, ew) at put)
+
 pub refused_put : (answer : Answer) (bytes : List ℕ) {n next : ℕ} {after : List ℕ} → n ≡ number_of answer
     → (next ≡ length_in (decimal n ++ (newline ∷ [])) bytes) × (after ≡ line_in (decimal n ++ (newline ∷ [])) bytes)
     → (next ≡ length_in (refused_line answer) bytes) × (after ≡ line_in (refused_line answer) bytes)

@@ -5,6 +5,7 @@ ghost use Rattle.std.specs.Prelude.{◌≡◌, ◌%◌, length};
 ghost use Rattle.line_digits.specs.Digits.{digit_of, decimal};
 
 // The last hexadecimal digit of a number, and the decimal digit of one below 10.
+#[tactic(auto, unfolding(crate::specs::Digits::digit_of))]
 pub fn digit(n: u32) -> u8
     ensures { result ≡ digit_of (n % 16) }
 {
@@ -21,9 +22,9 @@ pub fn decimal_length(n: u32) -> usize
     ensures { result ≡ length (decimal n) }
 {
     let mut rest = n;
-    let mut places: usize = 1;
+    let mut places = 1;
     while 10 <= rest {
-        rest = rest / 10;
+        rest /= 10;
         places += 1;
     }
     places

@@ -26,6 +26,21 @@ cell_fields answer steps pc acc ov =
 unfoldable pub line_put : ℕ → ℕ → ℕ → ℕ → ℕ → List ℕ → List ℕ
 line_put answer steps pc acc ov words = (cell_fields answer steps pc acc ov ++ word_fields words) ++ (newline ∷ [])
 
+-- the fields of a line by name, and the line of them
+pub record Fields : Type 0 where
+  pub answer : ℕ
+  pub steps : ℕ
+  pub pc : ℕ
+  pub acc : ℕ
+  pub ov : ℕ
+  pub words : List ℕ
+
+abbrev pub cells_of : Fields → List ℕ
+cells_of f = cell_fields f.answer f.steps f.pc f.acc f.ov
+
+abbrev pub line_of_fields : Fields → List ℕ
+line_of_fields f = line_put f.answer f.steps f.pc f.acc f.ov f.words
+
 -- the words that were put down so far
 pub record WordsPut (words before : List ℕ) (at k : ℕ) (after : List ℕ) (next : ℕ) : Type 0 where
   pub reached : k ≤ length words

@@ -5,12 +5,11 @@ ghost use Rattle.machine.specs.Reset.{reset_machine};
 ghost use Rattle.machine.specs.Range.{in_range};
 ghost use Rattle.machine.specs.Stack.{push_on, pop_on};
 
-use hardware_stack::{Stack, pop, push};
+use hardware_stack::Stack;
 
 // The cells of document 01, "The cells of the machine". Flags and pointers are numbers, so that check 1 can find one out of its range.
-#[derive(Clone, Copy)]
+#[derive(Clone, Copy, Debug, PartialEq, Eq, Hash)]
 pub struct Machine {
-    // First: the proofs that lend it know its place by that.
     pub stack: Stack,
     pub acc: u32,
     pub p: u32,
@@ -35,7 +34,7 @@ pub struct Machine {
 }
 
 // A machine after a pop, and the word that was popped.
-#[derive(Clone, Copy)]
+#[derive(Clone, Copy, Debug, PartialEq, Eq, Hash)]
 pub struct AfterPop {
     pub m: Machine,
     pub word: u16,
@@ -60,6 +59,7 @@ impl Machine {
     pub const CURSOR_MAX: u16 = 1024;
 
     // The machine after reset (guide, section 3.6.3).
+    #[tactic(auto, unfolding(crate::specs::Reset::reset_machine))]
     pub fn reset() -> Machine
         ensures { result ≡ reset_machine }
     {
@@ -112,7 +112,7 @@ pub fn push_on(m: Machine, word: u16) -> Machine
     ensures { result ≡ push_on m word }
 {
     let mut n = m;
-    push(&mut n.stack, word);
+    n.stack.push(word);
     n
 }
 
@@ -121,6 +121,6 @@ pub fn pop_on(m: Machine) -> AfterPop
     ensures { result ≡ pop_on m }
 {
     let mut n = m;
-    let word = pop(&mut n.stack);
+    let word = n.stack.pop();
     AfterPop { m: n, word }
 }

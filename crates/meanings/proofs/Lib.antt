@@ -1,3 +1,2 @@
-pub mod LastKey
 pub mod Rest
 pub mod Later

@@ -1,4 +1,4 @@
-// What the page at a place in the list of pages makes of a word.
+// What the page at a place in the list of pages makes of a word. A place is a number and no enum, as the definition `meaning_at` counts the pages.
 #![tactic(auto)]
 
 ghost use Rattle.std.specs.Prelude.{◌≡◌, ◌<◌, ◌≤◌};
@@ -10,14 +10,15 @@ ghost use Rattle.instructions.specs.declared.Decoded.TheVariants.{Built};
 use instructions::{
     Accumulator, Auxiliary, Branches, Decoded, Instruction, Modes, Multiplier, Transfers,
 };
-use operands::{Address, Indirect, Modification, NextArp};
+use operands::{Address, Indirect, Modification};
 
 // The number of the base's pages, which stand first in the list, and of all pages.
 const BASE_PAGES: u8 = 75;
 
 const PAGES: u8 = 133;
 
-// Bits 6 to 4 of an indirect operand (Table 4-1).
+// Bits 6 to 4 of an indirect operand (Table 4-1). No TryFrom: the definition `modification_of` refuses no number, and gives None for 3 too.
+#[tactic(auto, unfolding(instructions::specs::Encoding::modification_of))]
 fn modification_of(bits: u8) -> Modification
     ensures { result ≡ modification_of bits }
 {
@@ -33,15 +34,14 @@ fn modification_of(bits: u8) -> Modification
     }
 }
 
-fn next_of(low: u8) -> NextArp
+#[tactic(auto, unfolding(instructions::specs::Encoding::next_of))]
+fn next_of(low: u8) -> Option<u8>
     ensures { result ≡ next_of low }
 {
-    if low / 8 % 2 == 1 {
-        return NextArp::To(low % 8);
-    }
-    NextArp::Same
+    (low / 8 % 2 == 1).then_some(low % 8)
 }
 
+#[tactic(auto, unfolding(instructions::specs::Encoding::indirect_of))]
 fn indirect_of(low: u8) -> Indirect
     ensures { result ≡ indirect_of low }
 {
@@ -51,16 +51,19 @@ fn indirect_of(low: u8) -> Indirect
     }
 }
 
+#[tactic(auto, unfolding(instructions::specs::Encoding::address_mode_of))]
 fn address_of(low: u8) -> Address
     ensures { result ≡ address_mode_of low }
 {
     if low < 128 {
-        return Address::Direct(low);
+        Address::Direct(low)
+    } else {
+        Address::Indirect(indirect_of(low))
     }
-    Address::Indirect(indirect_of(low))
 }
 
 // Places 0 to 22.
+#[tactic(auto, unfolding(instructions::specs::Places::meaning_at))]
 fn accumulator_page(page: u8, w: u16) -> Accumulator
     requires { page < 23 }
     ensures { accumulator result ≡ meaning_at page w }
@@ -97,6 +100,7 @@ fn accumulator_page(page: u8, w: u16) -> Accumulator
 }
 
 // Places 23 to 41.
+#[tactic(auto, unfolding(instructions::specs::Places::meaning_at))]
 fn multiplier_page(page: u8, w: u16) -> Multiplier
     requires { (23 ≤ page) × (page < 42) }
     ensures { multiplier result ≡ meaning_at page w }
@@ -126,6 +130,7 @@ fn multiplier_page(page: u8, w: u16) -> Multiplier
 }
 
 // Places 42 to 49.
+#[tactic(auto, unfolding(instructions::specs::Places::meaning_at))]
 fn auxiliary_page(page: u8, w: u16) -> Auxiliary
     requires { (42 ≤ page) × (page < 50) }
     ensures { auxiliary result ≡ meaning_at page w }
@@ -146,6 +151,7 @@ fn auxiliary_page(page: u8, w: u16) -> Auxiliary
 }
 
 // Places 50 to 61.
+#[tactic(auto, unfolding(instructions::specs::Places::meaning_at))]
 fn branch_page(page: u8, w: u16) -> Branches
     requires { (50 ≤ page) × (page < 62) }
     ensures { branches result ≡ meaning_at page w }
@@ -168,6 +174,7 @@ fn branch_page(page: u8, w: u16) -> Branches
 }
 
 // Places 62 to 64.
+#[tactic(auto, unfolding(instructions::specs::Places::meaning_at))]
 fn transfer_page(page: u8, w: u16) -> Transfers
     requires { (62 ≤ page) × (page < 65) }
     ensures { transfers result ≡ meaning_at page w }
@@ -181,6 +188,7 @@ fn transfer_page(page: u8, w: u16) -> Transfers
 }
 
 // Places 65 to 74.
+#[tactic(auto, unfolding(instructions::specs::Places::meaning_at))]
 fn mode_page(page: u8, w: u16) -> Modes
     requires { (65 ≤ page) × (page < 75) }
     ensures { modes result ≡ meaning_at page w }
@@ -205,22 +213,14 @@ fn base_of(page: u8, w: u16) -> Instruction
     requires { page < 75 }
     ensures { Built result ≡ meaning_at page w }
 {
-    if page < 23 {
-        return Instruction::Accumulator(accumulator_page(page, w));
+    match page {
+        0..=22 => Instruction::Accumulator(accumulator_page(page, w)),
+        23..=41 => Instruction::Multiplier(multiplier_page(page, w)),
+        42..=49 => Instruction::Auxiliary(auxiliary_page(page, w)),
+        50..=61 => Instruction::Branches(branch_page(page, w)),
+        62..=64 => Instruction::Transfers(transfer_page(page, w)),
+        _ => Instruction::Modes(mode_page(page, w)),
     }
-    if page < 42 {
-        return Instruction::Multiplier(multiplier_page(page, w));
-    }
-    if page < 50 {
-        return Instruction::Auxiliary(auxiliary_page(page, w));
-    }
-    if page < 62 {
-        return Instruction::Branches(branch_page(page, w));
-    }
-    if page < 65 {
-        return Instruction::Transfers(transfer_page(page, w));
-    }
-    Instruction::Modes(mode_page(page, w))
 }
 
 // Places 75 to 132, the pages not in the base: each that is built has an arm here, in the order of the list.
@@ -232,6 +232,7 @@ fn later_page(page: u8, w: u16) -> Decoded
 }
 
 // What the page at a place makes of a word.
+#[tactic(auto, using(instructions::specs::Past::past_pages))]
 pub fn meaning(page: u8, w: u16) -> Decoded
     ensures { result ≡ meaning_at page w }
 {

@@ -12,7 +12,7 @@ use Rattle.runfile_writing.proofs.file_length.Reads as FileLength
 use Rattle.runfile_writing.proofs.write_file.Reads as WriteFile
 use Rattle.line_digits.proofs.digit.Reads as Digit
 use Rattle.line_digits.proofs.decimal_length.Reads as DecimalLength
-use Rattle.line_fields.proofs.fitting.fit_line.Reads as FitLine
+use Rattle.line_fields.proofs.fitting.Fields.fit_line.Reads as FitLine
 use Rattle.line_fields.proofs.fitting.fit_number.Reads as FitNumber
 use Rattle.line.proofs.run_line.Reads as RunLine
 use Rattle.line.proofs.refused_line.Reads as RefusedLine
@@ -58,7 +58,7 @@ digit κs a r r' e e' p q = same p q
 pub decimal_length : OneResult DecimalLength.Post
 decimal_length κs a r r' e e' p q = same p q
 
-pub fit_line : OneOutcome FitLine.Post (λ r e. pair r e.0.now)
+pub fit_line : OneOutcome FitLine.Post (λ r e. pair r e.1.0.now)
 fit_line κs a r r' e e' p q = same_pair (same p.0 q.0) (same p.1 q.1)
 
 pub fit_number : OneOutcome FitNumber.Post (λ r e. pair r e.0.now)

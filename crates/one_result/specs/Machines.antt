@@ -1,12 +1,18 @@
 -- One possible result of each exported function: the machine, the answers and the board.
-use Rattle.hardware_stack.proofs.pushed.Reads as Pushed
-use Rattle.hardware_stack.proofs.popped.Reads as Popped
-use Rattle.hardware_stack.proofs.top.Reads as Top
+use Rattle.hardware_stack.proofs.Stack.pushed.Reads as Pushed
+use Rattle.hardware_stack.proofs.Stack.popped.Reads as Popped
+use Rattle.hardware_stack.proofs.Stack.top.Reads as Top
+use Rattle.hardware_stack.proofs.Stack.push.Reads as Push
+use Rattle.hardware_stack.proofs.Stack.pop.Reads as Pop
 use Rattle.machine.proofs.Machine.reset.Reads as Reset
 use Rattle.machine.proofs.Machine.in_range.Reads as InRange
+use Rattle.machine.proofs.push_on.Reads as PushOn
+use Rattle.machine.proofs.pop_on.Reads as PopOn
 use Rattle.answers.proofs.number.Reads as Number
 use Rattle.answers.proofs.is_done.Reads as IsDone
 use Rattle.passes.proofs.with_sum.Reads as WithSum
+use Rattle.passes.proofs.add_to_acc.Reads as AddToAcc
+use Rattle.passes.proofs.subtract_from_acc.Reads as SubtractFromAcc
 use Rattle.passes.proofs.keep.Reads as Keep
 use Rattle.passes.proofs.store_word.Reads as PassesStoreWord
 use Rattle.passes.proofs.copy_word.Reads as CopyWord
@@ -35,14 +41,13 @@ use Rattle.slices.proofs.slices_fit.Reads as SlicesFit
 use Rattle.slices.proofs.part.Reads as Part
 use Rattle.slices.proofs.input_word.Reads as InputWord
 use Rattle.slices.proofs.store_at.Reads as StoreAt
-use Rattle.slices.proofs.clear.Reads as Clear
 use Rattle.slices.proofs.store_word.Reads as SlicesStoreWord
 use Rattle.windows.proofs.region_window.Reads as RegionWindow
 use Rattle.windows.proofs.window_answer.Reads as WindowAnswer
 use Rattle.windows.proofs.window.Reads as Window
 use Rattle.windows.proofs.words_sent_answer.Reads as WordsSentAnswer
 use Rattle.windows.proofs.words_sent.Reads as WordsSent
-use Rattle.one_result.specs.One.{OneOutcome, OneResult, OnePart, same, same_pair}
+use Rattle.one_result.specs.One.{OneOutcome, OneResult, OnePart, pair, same, same_pair}
 
 pub pushed : OneResult Pushed.Post
 pushed κs a r r' e e' p q = same p q
@@ -53,11 +58,23 @@ popped κs a r r' e e' p q = same p q
 pub top : OneResult Top.Post
 top κs a r r' e e' p q = same p q
 
+pub push : OneOutcome Push.Post (λ r e. e.0.now)
+push κs a r r' e e' p q = same p q
+
+pub pop : OneOutcome Pop.Post (λ r e. pair r e.0.now)
+pop κs a r r' e e' p q = same_pair (same p.0 q.0) (same p.1 q.1)
+
 pub reset : OneResult Reset.Post
 reset κs a r r' e e' p q = same p q
 
 pub in_range : OneResult InRange.Post
 in_range κs a r r' e e' p q = same p q
+
+pub push_on : OneResult PushOn.Post
+push_on κs a r r' e e' p q = same p q
+
+pub pop_on : OneResult PopOn.Post
+pop_on κs a r r' e e' p q = same p q
 
 pub number : OneResult Number.Post
 number κs a r r' e e' p q = same p q
@@ -67,6 +84,12 @@ is_done κs a r r' e e' p q = same p q
 
 pub with_sum : OneResult WithSum.Post
 with_sum κs a r r' e e' p q = same p q
+
+pub add_to_acc : OneResult AddToAcc.Post
+add_to_acc κs a r r' e e' p q = same p q
+
+pub subtract_from_acc : OneResult SubtractFromAcc.Post
+subtract_from_acc κs a r r' e e' p q = same p q
 
 pub keep : OneResult Keep.Post
 keep κs a r r' e e' p q = same p q
@@ -151,9 +174,6 @@ input_word κs a r r' e e' p q = same p q
 
 pub store_at : OneOutcome StoreAt.Post (λ r e. e.0.now)
 store_at κs a r r' e e' p q = same p q
-
-pub clear : OneOutcome Clear.Post (λ r e. e.0.now)
-clear κs a r r' e e' p q = same p q
 
 pub slices_store_word : OneOutcome SlicesStoreWord.Post (λ r e. e.0.now)
 slices_store_word κs a r r' e e' p q = same p q

@@ -1,67 +1,59 @@
 -- What each page says of its instruction besides its rule: its operand, how many words it has, whether it can be repeated, whether it reads or writes the
 -- addressed data word, whether it reads a table word, and its port.
-use Rattle.std.specs.Prelude.{true, false, ℕ}
+use Rattle.std.specs.Prelude.{true, false, ℕ, Some, None}
 use Rattle.operands.specs.declared.Indirect.{Indirect}
 use Rattle.operands.specs.declared.Address.{Address}
 use Rattle.operands.specs.declared.Address.TheVariants as Mode
 use Rattle.instructions.specs.declared.Instruction.{Instruction}
 use Rattle.instructions.specs.declared.Instruction.TheVariants as Family
 use Rattle.instructions.specs.declared.Accumulator.{Accumulator}
-use Rattle.instructions.specs.declared.Accumulator.TheVariants as Accumulator
 use Rattle.instructions.specs.declared.Multiplier.{Multiplier}
-use Rattle.instructions.specs.declared.Multiplier.TheVariants as Multiplier
 use Rattle.instructions.specs.declared.Auxiliary.{Auxiliary}
-use Rattle.instructions.specs.declared.Auxiliary.TheVariants as Auxiliary
 use Rattle.instructions.specs.declared.Branches.{Branches}
-use Rattle.instructions.specs.declared.Branches.TheVariants as Branches
 use Rattle.instructions.specs.declared.Transfers.{Transfers}
-use Rattle.instructions.specs.declared.Transfers.TheVariants as Transfers
 use Rattle.instructions.specs.declared.Modes.{Modes}
-use Rattle.instructions.specs.declared.Modes.TheVariants as Modes
-use Rattle.pages.specs.declared.Operand.{Operand}
-use Rattle.pages.specs.declared.Operand.TheVariants as Operand
 use Rattle.pages.specs.declared.Access.TheVariants as Access
 use Rattle.pages.specs.declared.Port.TheVariants as Port
 use Rattle.pages.specs.declared.Traits.{Traits}
 
 -- no operand, one word, "Repeat Execution" has cycles
 abbrev pub plain : Traits
-plain = record { operand = Operand.Nothing; words = 1; repeatable = true; access = Access.None; table = false; port = Port.None }
+plain = record { operand = None; words = 1; repeatable = true; access = Access.None; table = false; port = Port.None }
 
 -- no operand, one word, "not repeatable"
 abbrev pub constant : Traits
-constant = record { operand = Operand.Nothing; words = 1; repeatable = false; access = Access.None; table = false; port = Port.None }
+constant = record { operand = None; words = 1; repeatable = false; access = Access.None; table = false; port = Port.None }
 
 -- the addressed word is read
 abbrev pub reading : Address → Traits
-reading a = record { operand = Operand.At a; words = 1; repeatable = true; access = Access.Reads; table = false; port = Port.None }
+reading a = record { operand = Some a; words = 1; repeatable = true; access = Access.Reads; table = false; port = Port.None }
 
 -- a word is stored at the address; a store does not read its word (ruling R8)
 abbrev pub writing : Address → Traits
-writing a = record { operand = Operand.At a; words = 1; repeatable = true; access = Access.Writes; table = false; port = Port.None }
+writing a = record { operand = Some a; words = 1; repeatable = true; access = Access.Writes; table = false; port = Port.None }
 
 -- MAR: "no use is made of the memory being referenced"
 abbrev pub modifying : Address → Traits
-modifying a = record { operand = Operand.At a; words = 1; repeatable = true; access = Access.None; table = false; port = Port.None }
+modifying a = record { operand = Some a; words = 1; repeatable = true; access = Access.None; table = false; port = Port.None }
 
 -- RPT: the addressed word is read; "not repeatable"
 abbrev pub counting : Address → Traits
-counting a = record { operand = Operand.At a; words = 1; repeatable = false; access = Access.Reads; table = false; port = Port.None }
+counting a = record { operand = Some a; words = 1; repeatable = false; access = Access.Reads; table = false; port = Port.None }
 
 -- MAC and MACD: two words; the addressed word and a program word are read
 abbrev pub tabled : Address → Traits
-tabled a = record { operand = Operand.At a; words = 2; repeatable = true; access = Access.Reads; table = true; port = Port.None }
+tabled a = record { operand = Some a; words = 2; repeatable = true; access = Access.Reads; table = true; port = Port.None }
 
 -- a branch: two words, an indirect operand that makes no access, "not repeatable"
 abbrev pub branching : Indirect → Traits
-branching i = record { operand = Operand.At (Mode.Indirect i); words = 2; repeatable = false; access = Access.None; table = false; port = Port.None }
+branching i = record { operand = Some (Mode.Indirect i); words = 2; repeatable = false; access = Access.None; table = false; port = Port.None }
 
 -- IN stores a word, and OUT reads one
 abbrev pub taking : ℕ → Address → Traits
-taking port a = record { operand = Operand.At a; words = 1; repeatable = true; access = Access.Writes; table = false; port = Port.Input port }
+taking port a = record { operand = Some a; words = 1; repeatable = true; access = Access.Writes; table = false; port = Port.Input port }
 
 abbrev pub sending : ℕ → Address → Traits
-sending port a = record { operand = Operand.At a; words = 1; repeatable = true; access = Access.Reads; table = false; port = Port.Output port }
+sending port a = record { operand = Some a; words = 1; repeatable = true; access = Access.Reads; table = false; port = Port.Output port }
 
 unfoldable pub accumulator_traits : Accumulator → Traits
 accumulator_traits (Accumulator.Add n a) = reading a

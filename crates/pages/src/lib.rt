@@ -4,29 +4,22 @@
 use machine::Machine;
 use operands::Address;
 
-// What an instruction's address field asks for.
-#[derive(Clone, Copy)]
-pub enum Operand {
-    Nothing,
-    At(Address),
-}
-
 // Whether the addressed data word is read, written, or not touched.
-#[derive(Clone, Copy)]
+#[derive(Clone, Copy, Debug, PartialEq, Eq)]
 pub enum Access {
     None,
     Reads,
     Writes,
 }
 
-#[derive(Clone, Copy)]
+#[derive(Clone, Copy, Debug, PartialEq, Eq)]
 pub enum Port {
     None,
     Input(u8),
     Output(u8),
 }
 
-#[derive(Clone, Copy)]
+#[derive(Clone, Copy, Debug, PartialEq, Eq)]
 pub struct Traits {
     pub words: u16,
     pub port: Port,
@@ -34,11 +27,12 @@ pub struct Traits {
     pub access: Access,
     // A MAC or MACD reads a program word besides.
     pub table: bool,
-    pub operand: Operand,
+    // What the address field asks for; None where there is none.
+    pub operand: Option<Address>,
 }
 
 // The words that a pass reads. What the instruction does not use is not looked at.
-#[derive(Clone, Copy)]
+#[derive(Clone, Copy, Debug, PartialEq, Eq, Hash)]
 pub struct Words {
     // The data word at the operand's address.
     pub operand: u16,
@@ -52,7 +46,7 @@ pub struct Words {
 }
 
 // What a pass stores besides the machine's cells.
-#[derive(Clone, Copy)]
+#[derive(Clone, Copy, Debug, PartialEq, Eq, Hash)]
 pub enum Store {
     Nothing,
     // A data word, at the operand's address.
@@ -63,17 +57,11 @@ pub enum Store {
     Sent(u16),
 }
 
-// Where PC goes: past the instruction's words, or to where the instruction sends it.
-#[derive(Clone, Copy)]
-pub enum Jump {
-    Past,
-    To(u16),
-}
-
 // The machine after a page's rule, RPTC, MID and PC not yet moved on, and what is to be stored.
-#[derive(Clone, Copy)]
+#[derive(Clone, Copy, Debug, PartialEq, Eq, Hash)]
 pub struct Effect {
     pub m: Machine,
     pub store: Store,
-    pub jump: Jump,
+    // Where the instruction sends PC; where it sends it nowhere, PC moves past the instruction's words.
+    pub jump: Option<u16>,
 }

@@ -1,13 +1,12 @@
 -- The words that two pages have: "ZAC is LACK 0, NOP and LARP are MAR" (document 01). These are all, and what each is.
-use Rattle.std.specs.Prelude.{◌≡◌, Bool, ◌&&◌, [], ◌∷◌, map, ℕ, ◌+◌, ◌<◌, leb, eqb, drop}
+use Rattle.std.specs.Prelude.{◌≡◌, Bool, ◌&&◌, [], ◌∷◌, map, ℕ, ◌+◌, ◌<◌, leb, eqb, drop, Some}
 use Rattle.instructions.specs.Encoding.{accumulator, auxiliary}
 use Rattle.instructions.specs.Pages.{pages}
 use Rattle.instructions.specs.Decode.{decode_of}
 use Rattle.instructions.specs.declared.Accumulator.TheVariants.{Lack}
 use Rattle.instructions.specs.declared.Auxiliary.TheVariants.{Mar}
 use Rattle.operands.specs.declared.Address.TheVariants.{Direct, Indirect}
-use Rattle.operands.specs.declared.Modification.TheVariants.{None}
-use Rattle.operands.specs.declared.NextArp.TheVariants.{To}
+use Rattle.operands.specs.declared.Modification.{Modification}
 use Rattle.pages_apart.specs.Having.{has_at}
 
 -- The page at a place of the list has the words that pass the test, and no others.
@@ -29,4 +28,4 @@ pub record NopIsMar : Type 0 where
 -- LARP k: MAR with no modification and next ARP k
 pub record LarpIsMar : Type 0 where
   pub words : HasExactly 132 (λ w. leb 0x5588 w && leb w 0x558F)
-  pub meaning : (k : ℕ) → k < 8 → decode_of (0x5588 + k) ≡ auxiliary (Mar (Indirect (record { modification = None; next = To k })))
+  pub meaning : (k : ℕ) → k < 8 → decode_of (0x5588 + k) ≡ auxiliary (Mar (Indirect (record { modification = Modification.None; next = Some k })))

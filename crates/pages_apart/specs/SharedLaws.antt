@@ -1,5 +1,5 @@
 -- Of the words that two pages have: proofs.
-use Rattle.std.specs.Prelude.{◌≡◌, refl, Bool, true, false, ◌&&◌, ℕ, zero, suc, ◌+◌, ◌/◌, ◌%◌, ◌<◌, ◌≤◌, T, leb, eqb}
+use Rattle.std.specs.Prelude.{◌≡◌, refl, Bool, true, false, ◌&&◌, ℕ, zero, suc, ◌+◌, ◌/◌, ◌%◌, ◌<◌, ◌≤◌, T, leb, eqb, Some}
 use Rattle.std.proofs.Common.{sym, subst, arith, leb→le, le→leb, eqb→eq}
 use Rattle.std.proofs.Math.Dec.{eqb_refl}
 use Rattle.instructions.specs.Every.{both_left, both_right, all, all_at}
@@ -9,8 +9,7 @@ use Rattle.instructions.specs.Pages.{pages}
 use Rattle.instructions.specs.Decode.{decode_of}
 use Rattle.instructions.specs.declared.Auxiliary.TheVariants.{Mar}
 use Rattle.operands.specs.declared.Address.TheVariants.{Indirect}
-use Rattle.operands.specs.declared.Modification.TheVariants.{None}
-use Rattle.operands.specs.declared.NextArp.TheVariants.{To}
+use Rattle.operands.specs.declared.Modification.{Modification}
 use Rattle.pages_apart.specs.Having.{has_at}
 use Rattle.pages_apart.specs.Shared.{HasExactly, LastThree, ZacIsLack, NopIsMar, LarpIsMar}
 
@@ -71,7 +70,7 @@ pub nop_is_mar : NopIsMar
 unfolding low_fits decode_of address_mode_of
 nop_is_mar = record { words = one_word 131 0x5500 tt nop_word; meaning = refl }
 
-larp_words : (k : ℕ) → k < 8 → decode_of (0x5588 + k) ≡ auxiliary (Mar (Indirect (record { modification = None; next = To k })))
+larp_words : (k : ℕ) → k < 8 → decode_of (0x5588 + k) ≡ auxiliary (Mar (Indirect (record { modification = Modification.None; next = Some k })))
 unfolding low_fits decode_of address_mode_of indirect_of modification_of next_of
 larp_words zero h = refl
 larp_words (suc zero) h = refl

@@ -5,7 +5,7 @@ use Rattle.std.proofs.Common.{sym, ◌∙◌}
 use Rattle.answers.specs.Answers.{Answer}
 use Rattle.answers.specs.Answers.{Done}
 use Rattle.board.specs.Given.{Given}
-use Rattle.steps.specs.declared.Plan.{Plan}
+use Rattle.steps.specs.Plan.{Plan}
 use Rattle.steps.specs.Rows.{first_given}
 use Rattle.steps.specs.Pass.{refused}
 use Rattle.steps.specs.World.{World}

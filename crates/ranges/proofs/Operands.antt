@@ -1,17 +1,14 @@
 -- Operands and the words that a pass reads: proofs.
-use Rattle.std.specs.Prelude.{◌≡◌, refl, Bool, true, false, cond, List, [], ℕ, ◌+◌, ◌-◌, ◌^◌, ◌<◌, eqb, take}
+use Rattle.std.specs.Prelude.{◌≡◌, refl, Bool, true, false, cond, List, [], ℕ, ◌+◌, ◌-◌, ◌^◌, ◌<◌, eqb, take, Option, Some, None}
 use Rattle.std.proofs.Common.{arith}
 use Rattle.std.proofs.Math.Seq.{slice}
 use Rattle.machine.specs.declared.Machine.{Machine}
 use Rattle.operands.specs.declared.Modification.{Modification}
-use Rattle.operands.specs.declared.Modification.TheVariants.{None, Minus, Plus, MinusReversed, MinusIndex, PlusIndex, PlusReversed}
-use Rattle.operands.specs.declared.NextArp.{NextArp}
-use Rattle.operands.specs.declared.NextArp.TheVariants.{Same, To}
+use Rattle.operands.specs.declared.Modification.TheVariants.{Minus, Plus, MinusReversed, MinusIndex, PlusIndex, PlusReversed}
+use Rattle.operands.specs.declared.Address.{Address}
 use Rattle.operands.specs.declared.Address.TheVariants as Mode
 use Rattle.instructions.specs.declared.Instruction.{Instruction}
 use Rattle.pages.specs.declared.Access.{Access}
-use Rattle.pages.specs.declared.Operand.{Operand}
-use Rattle.pages.specs.declared.Operand.TheVariants.{Nothing, At}
 use Rattle.pages.specs.declared.Traits.{Traits}
 use Rattle.pages.specs.Traits.{traits_of}
 use Rattle.pages.specs.Addressing.{moved, pointed, modified, addressed, address_of}
@@ -33,7 +30,7 @@ use Rattle.ranges.specs.Rules.{WordsRead}
 
 moved_lt : (x : Modification) (ar index : ℕ) → ar < 2 ^ 16 → moved x ar index < 2 ^ 16
 unfolding moved
-moved_lt None ar index h = h
+moved_lt Modification.None ar index h = h
 moved_lt Minus ar index h = difference_lt ar 1
 moved_lt Plus ar index h = sum_lt ar 1
 moved_lt MinusReversed ar index h = reversed_difference_lt ar index
@@ -42,28 +39,28 @@ moved_lt PlusIndex ar index h = sum_lt ar index
 moved_lt PlusReversed ar index h = reversed_sum_lt ar index
 
 module _ {i o : ℕ} where
-  pointed_keeps : (next : NextArp) {m : Machine} → NextFits next → Fits i o m → Fits i o (pointed next m)
+  pointed_keeps : (next : Option ℕ) {m : Machine} → NextFits next → Fits i o m → Fits i o (pointed next m)
   unfolding pointed
-  pointed_keeps Same g f = f
-  pointed_keeps (To arp) g f = set_cell "ARP" (set_cell "ARB" f (cell_fits f "ARP")) g
+  pointed_keeps None g f = f
+  pointed_keeps (Some arp) g f = set_cell "ARP" (set_cell "ARB" f (cell_fits f "ARP")) g
 
-  pub addressed_keeps : (x : Operand) {m : Machine} → OperandFits x → Fits i o m → Fits i o (addressed x m)
+  pub addressed_keeps : (x : Option Address) {m : Machine} → OperandFits x → Fits i o m → Fits i o (addressed x m)
   unfolding addressed modified
-  addressed_keeps Nothing g f = f
-  addressed_keeps (At (Mode.Direct offset)) g f = f
-  addressed_keeps (At (Mode.Indirect operand)) {m} g f =
+  addressed_keeps None g f = f
+  addressed_keeps (Some (Mode.Direct offset)) g f = f
+  addressed_keeps (Some (Mode.Indirect operand)) {m} g f =
       pointed_keeps operand.next g (set_register f m.arp _ (moved_lt operand.modification _ _ (register_fits f m.arp)))
 
-pointed_cursors : (next : NextArp) (m : Machine) → ((pointed next m).input_cursor ≡ m.input_cursor) × ((pointed next m).output_cursor ≡ m.output_cursor)
+pointed_cursors : (next : Option ℕ) (m : Machine) → ((pointed next m).input_cursor ≡ m.input_cursor) × ((pointed next m).output_cursor ≡ m.output_cursor)
 unfolding pointed
-pointed_cursors Same m = (refl, refl)
-pointed_cursors (To arp) m = (refl, refl)
+pointed_cursors None m = (refl, refl)
+pointed_cursors (Some arp) m = (refl, refl)
 
-pub addressed_cursors : (x : Operand) (m : Machine) → ((addressed x m).input_cursor ≡ m.input_cursor) × ((addressed x m).output_cursor ≡ m.output_cursor)
+pub addressed_cursors : (x : Option Address) (m : Machine) → ((addressed x m).input_cursor ≡ m.input_cursor) × ((addressed x m).output_cursor ≡ m.output_cursor)
 unfolding addressed modified
-addressed_cursors Nothing m = (refl, refl)
-addressed_cursors (At (Mode.Direct offset)) m = (refl, refl)
-addressed_cursors (At (Mode.Indirect operand)) m = pointed_cursors operand.next _
+addressed_cursors None m = (refl, refl)
+addressed_cursors (Some (Mode.Direct offset)) m = (refl, refl)
+addressed_cursors (Some (Mode.Indirect operand)) m = pointed_cursors operand.next _
 
 -- ---- words
 

@@ -1,5 +1,5 @@
 -- No address is above 65,535 where check 1 is passed, and 8's row changes no answer: proofs.
-use Rattle.std.specs.Prelude.{◌≡◌, Bool, cond, ℕ, ◌≤◌}
+use Rattle.std.specs.Prelude.{◌≡◌, Bool, cond, ℕ, ◌≤◌, Option, Some, None}
 use Rattle.std.proofs.Math.Path.{refl, ap}
 use Rattle.std.proofs.Common.{arith, le-ltb}
 use Rattle.std.proofs.Math.Bool.{true, false, and-false}
@@ -13,13 +13,13 @@ use Rattle.answers.specs.Answers.{Answer}
 use Rattle.instructions.specs.declared.Decoded.{Decoded}
 use Rattle.instructions.specs.declared.Decoded.TheVariants.{Built, Unbuilt, Nothing}
 use Rattle.instructions.specs.Decode.{decode_of}
+use Rattle.operands.specs.declared.Address.{Address}
 use Rattle.operands.specs.declared.Address.TheVariants as Mode
-use Rattle.pages.specs.declared.Operand.{Operand}
 use Rattle.pages.specs.Traits.{traits_of}
 use Rattle.pages.specs.Addressing.{address_of}
 use Rattle.board.specs.Windows.{program_word}
 use Rattle.board.specs.Given.{Given}
-use Rattle.steps.specs.declared.Plan.{Plan}
+use Rattle.steps.specs.Plan.{Plan}
 use Rattle.steps.specs.Rows.{Row}
 use Rattle.steps.specs.Refusals.{accesses, pass_rows, access_rows, rest_rows}
 use Rattle.steps.specs.Pass.{refused, plan_by}
@@ -32,11 +32,11 @@ use Rattle.ranges.specs.Retired.{AddressBelow, address_above, NoneAbove, with_ro
 
 -- ---- the address
 
-operand_below : (x : Operand) (m : Machine) → in_range m ≡ true → OperandFits x → address_of x m ≤ 65535
+operand_below : (x : Option Address) (m : Machine) → in_range m ≡ true → OperandFits x → address_of x m ≤ 65535
 unfolding address_of
-operand_below Operand.Nothing m h f = omega arith
-operand_below (Operand.At (Mode.Direct offset)) m h f = omega (arith, most (ranged m h) "DP", f)
-operand_below (Operand.At (Mode.Indirect operand)) m h f = word_most (ranged m h) "AR" m.arp
+operand_below None m h f = omega arith
+operand_below (Some (Mode.Direct offset)) m h f = omega (arith, most (ranged m h) "DP", f)
+operand_below (Some (Mode.Indirect operand)) m h f = word_most (ranged m h) "AR" m.arp
 
 pub address_below : AddressBelow
 address_below m w i h e = operand_below (traits_of i).operand m h (decoded_operand w i e)

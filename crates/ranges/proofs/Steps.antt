@@ -1,5 +1,5 @@
 -- A step keeps the world in range: proofs.
-use Rattle.std.specs.Prelude.{◌≡◌, Bool, true, false, cond, ◌&&◌, List, ℕ, ◌+◌, ◌^◌, ◌<◌, ltb, length}
+use Rattle.std.specs.Prelude.{◌≡◌, Bool, true, false, cond, ◌&&◌, List, ℕ, ◌+◌, ◌^◌, ◌<◌, ltb, length, Option, Some, None}
 use Rattle.std.proofs.Math.Path.{refl}
 use Rattle.std.proofs.Common.{sym, ◌∙◌, arith, length-set}
 use Rattle.std.proofs.lemmas.Bool.{false≢true}
@@ -13,8 +13,6 @@ use Rattle.instructions.specs.declared.Decoded.{Decoded}
 use Rattle.instructions.specs.declared.Decoded.TheVariants.{Built, Unbuilt, Nothing}
 use Rattle.pages.specs.declared.Store.{Store}
 use Rattle.pages.specs.declared.Store.TheVariants as Left
-use Rattle.pages.specs.declared.Jump.{Jump}
-use Rattle.pages.specs.declared.Jump.TheVariants.{Past, To}
 use Rattle.pages.specs.Passes.{destination, followed}
 use Rattle.pages.specs.Traits.{traits_of}
 use Rattle.pages.specs.Addressing.{address_of}
@@ -74,16 +72,16 @@ module _ {i o : ℕ} {m : Machine} (f : Fits i o m) where
 
 -- ---- what follows a pass, and its store
 
-destination_lt : (jump : Jump) (pc words : ℕ) → JumpFits jump → destination jump pc words < 2 ^ 16
+destination_lt : (jump : Option ℕ) (pc words : ℕ) → JumpFits jump → destination jump pc words < 2 ^ 16
 unfolding destination
-destination_lt Past pc words h = sum_lt pc words
-destination_lt (To to) pc words h = h
+destination_lt None pc words h = sum_lt pc words
+destination_lt (Some to) pc words h = h
 
 either : (t : Bool) {i o : ℕ} {a b : Machine} → Fits i o a → Fits i o b → Fits i o (cond t a b)
 either true f g = f
 either false f g = g
 
-followed_keeps : {i o : ℕ} {m : Machine} (jump : Jump) (words : ℕ) (repeatable : Bool) → Fits i o m → JumpFits jump → Fits i o (followed m jump words repeatable)
+followed_keeps : {i o : ℕ} {m : Machine} (jump : Option ℕ) (words : ℕ) (repeatable : Bool) → Fits i o m → JumpFits jump → Fits i o (followed m jump words repeatable)
 unfolding followed
 followed_keeps {i} {o} {m} jump words repeatable f h =
     either (repeatable && ltb 0 m.rptc)

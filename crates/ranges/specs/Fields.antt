@@ -1,7 +1,5 @@
 -- What is known of a decoded instruction: its operand and its numbers are within the bits that its page prints for them.
-use Rattle.std.specs.Prelude.{◌<◌}
-use Rattle.operands.specs.declared.NextArp.{NextArp}
-use Rattle.operands.specs.declared.NextArp.TheVariants.{Same, To}
+use Rattle.std.specs.Prelude.{◌<◌, ℕ, Option, Some, None}
 use Rattle.operands.specs.declared.Indirect.{Indirect}
 use Rattle.operands.specs.declared.Address.{Address}
 use Rattle.operands.specs.declared.Address.TheVariants as Mode
@@ -10,13 +8,12 @@ use Rattle.instructions.specs.declared.Decoded.{Decoded}
 use Rattle.instructions.specs.declared.Decoded.TheVariants.{Built, Unbuilt, Nothing}
 use Rattle.encodings.specs.Encode.{fields_of}
 use Rattle.encodings.specs.Within.{FieldsWithin}
-use Rattle.pages.specs.declared.Operand.{Operand}
 use Rattle.pages.specs.Traits.{traits_of}
 
 -- the next ARP is a register's number
-abbrev pub NextFits : NextArp → Type 0
-NextFits Same = Unit {0}
-NextFits (To arp) = arp < 8
+abbrev pub NextFits : Option ℕ → Type 0
+NextFits None = Unit {0}
+NextFits (Some arp) = arp < 8
 
 abbrev pub IndirectFits : Indirect → Type 0
 IndirectFits operand = NextFits operand.next
@@ -26,9 +23,9 @@ abbrev pub AddressFits : Address → Type 0
 AddressFits (Mode.Direct offset) = offset < 128
 AddressFits (Mode.Indirect operand) = IndirectFits operand
 
-abbrev pub OperandFits : Operand → Type 0
-OperandFits Operand.Nothing = Unit {0}
-OperandFits (Operand.At a) = AddressFits a
+abbrev pub OperandFits : Option Address → Type 0
+OperandFits None = Unit {0}
+OperandFits (Some a) = AddressFits a
 
 pub record FieldsFit (x : Instruction) : Type 0 where
   pub operand : OperandFits (traits_of x).operand

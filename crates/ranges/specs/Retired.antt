@@ -14,7 +14,7 @@ use Rattle.instructions.specs.Decode.{decode_of}
 use Rattle.pages.specs.Traits.{traits_of}
 use Rattle.pages.specs.Addressing.{address_of}
 use Rattle.board.specs.Given.{Given}
-use Rattle.steps.specs.declared.Plan.{Plan}
+use Rattle.steps.specs.Plan.{Plan}
 use Rattle.steps.specs.Rows.{Row, row, first_given}
 use Rattle.steps.specs.Refusals.{accesses}
 use Rattle.steps.specs.Pass.{plan_by}

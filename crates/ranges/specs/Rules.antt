@@ -1,5 +1,5 @@
 -- Every rule keeps the machine in range, and leaves and asks for words of 16 bits: proofs, family by family.
-use Rattle.std.specs.Prelude.{◌≡◌, refl, Bool, ℕ, ◌%◌, ◌^◌, ◌<◌}
+use Rattle.std.specs.Prelude.{◌≡◌, refl, Bool, ℕ, ◌%◌, ◌^◌, ◌<◌, Option, Some, None}
 use Rattle.std.proofs.Math.Bool.{true, false}
 use Rattle.std.proofs.Common.{arith}
 use Rattle.alu.specs.declared.Sum.{Sum}
@@ -27,8 +27,6 @@ use Rattle.pages.specs.ModesRule.{modes_rule}
 use Rattle.pages.specs.ModesPages.{SOVM, ROVM, SSXM, RSXM, CNFD, CNFP, RPT, RPTK, PUSH, POP}
 use Rattle.pages.specs.declared.Store.{Store}
 use Rattle.pages.specs.declared.Store.TheVariants as Left
-use Rattle.pages.specs.declared.Jump.{Jump}
-use Rattle.pages.specs.declared.Jump.TheVariants.{Past, To}
 use Rattle.pages.specs.declared.Effect.{Effect}
 use Rattle.pages.specs.Passes.{with_sum, kept, stored, copied, jumped}
 use Rattle.pages.specs.Traits.{traits_of, transfers_traits}
@@ -47,9 +45,9 @@ StoreFits (Left.Word word) = word < 2 ^ 16
 StoreFits (Left.Move word) = word < 2 ^ 16
 StoreFits (Left.Sent word) = word < 2 ^ 16
 
-abbrev pub JumpFits : Jump → Type 0
-JumpFits Past = Unit {0}
-JumpFits (To to) = to < 2 ^ 16
+abbrev pub JumpFits : Option ℕ → Type 0
+JumpFits None = Unit {0}
+JumpFits (Some to) = to < 2 ^ 16
 
 pub record EffectFits (i o : ℕ) (e : Effect) : Type 0 where
   pub m : Fits i o e.m

@@ -1,45 +1,26 @@
-// The plan of a refused step, and what refuses a pass of a decoded instruction: the last rows of the order of the answers.
+// What refuses a pass of a decoded instruction: the last rows of the order of the answers.
 #![tactic(auto)]
 
-ghost use Rattle.std.specs.Prelude.{◌≡◌, not, ◌&&◌, ◌||◌};
+ghost use Rattle.std.specs.Prelude.{◌≡◌, not, ◌&&◌, ◌||◌, length};
 ghost use Rattle.board.specs.Regions.{program_present};
 ghost use Rattle.board.specs.Slices.{port_spent};
-ghost use Rattle.steps.specs.Pass.{refused};
 ghost use Rattle.steps.specs.Rows.{first_given};
 ghost use Rattle.steps.specs.Refusals.{accesses, wrong_port, takes, sends, access_rows, rest_rows, pass_refusal};
 
 use addressing::table_address;
-use answers::{Answer, is_done};
-use board::Region;
+use answers::{Answer, Refusal};
+use board::{Lent, Region};
 use machine::Machine;
 use pages::{Access, Port, Traits};
-use steps::{Outside, Plan, Write};
 
-// A refused step leaves the machine as it is, stores nothing and counts nothing.
-pub fn refuse(m: Machine, answer: Answer) -> Plan
-    ensures { result ≡ refused m answer }
-{
-    Plan {
-        m,
-        answer,
-        write: Write::Nothing,
-        outside: Outside {
-            reads: 0,
-            writes: 0,
-        },
-    }
-}
-
+#[tactic(auto, unfolding(steps::specs::Refusals::accesses))]
 fn is_accessed(access: Access) -> bool
     ensures { result ≡ accesses access }
 {
-    match access {
-        Access::None => false,
-        Access::Reads => true,
-        Access::Writes => true,
-    }
+    matches!(access, Access::Reads | Access::Writes)
 }
 
+#[tactic(auto, unfolding(steps::specs::Refusals::wrong_port))]
 fn is_wrong_port(port: Port) -> bool
     ensures { result ≡ wrong_port port }
 {
@@ -50,18 +31,16 @@ fn is_wrong_port(port: Port) -> bool
     }
 }
 
+#[tactic(auto, unfolding(steps::specs::Refusals::takes))]
 fn is_input(port: Port) -> bool
     ensures { result ≡ takes port }
 {
-    match port {
-        Port::None => false,
-        Port::Input(_) => true,
-        Port::Output(_) => false,
-    }
+    matches!(port, Port::Input(_))
 }
 
 // Of a second word or a table word, asked only where there is one. Both places are asked at once: were it `program_present`, the compiler would
 // ask the first of them in every step.
+#[tactic(auto, unfolding(board::specs::Regions::program_present))]
 pub fn is_program_absent(needed: bool, cnf: u8, at: u16) -> bool
     ensures { result ≡ (needed && not (program_present cnf at)) }
 {
@@ -74,44 +53,38 @@ pub fn is_program_absent(needed: bool, cnf: u8, at: u16) -> bool
 }
 
 // Whether nothing is left of the port's slice. Both ports are asked at once, so that an instruction without one meets one test.
-fn is_port_spent(port: Port, input_length: usize, output_length: usize, m: Machine) -> bool
-    ensures { result ≡ (takes port && port_spent input_length m.input_cursor || sends port && port_spent output_length m.output_cursor) }
+#[tactic(auto, unfolding(steps::specs::Refusals::takes, steps::specs::Refusals::sends))]
+fn is_port_spent(port: Port, lent: &Lent<'_>, m: Machine) -> bool
+    ensures { result ≡ (takes port && port_spent (length lent.now.given.input) m.input_cursor || sends port && port_spent lent.now.output_length m.output_cursor) }
 {
     match port {
         Port::None => false,
-        Port::Input(_) => slices::port_spent(input_length, m.input_cursor),
-        Port::Output(_) => slices::port_spent(output_length, m.output_cursor),
+        Port::Input(_) => slices::port_spent(lent.input().len(), m.input_cursor),
+        Port::Output(_) => slices::port_spent(lent.output_length(), m.output_cursor),
     }
 }
 
 // What is asked of the port, and of the operand by its region: 9 and 6.
+#[tactic(auto, unfolding(steps::specs::Rows::first_given, steps::specs::Refusals::access_rows, steps::specs::Refusals::data_absent))]
 fn access_refusal(t: Traits, region: Region) -> Answer
     ensures { result ≡ first_given (access_rows t region) }
 {
-    let port = t.port;
-    let access = t.access;
-    if is_wrong_port(port) {
+    if is_wrong_port(t.port) {
         return Err(Refusal::WrongPort);
     }
-    if is_accessed(access) & !regions::region_present(region) {
+    if is_accessed(t.access) & !regions::region_present(region) {
         return Err(Refusal::DataAbsent);
     }
     Ok(())
 }
 
 // What the rest asks: 11, 5 for a table word, and 10.
-fn rest_refusal(
-    t: Traits,
-    second: u16,
-    input_length: usize,
-    output_length: usize,
-    m: Machine,
-) -> Answer
-    ensures { result ≡ first_given (rest_rows t second input_length output_length m) }
+#[tactic(auto, unfolding(steps::specs::Refusals::input_dry, steps::specs::Refusals::table_absent, steps::specs::Refusals::output_full), using(steps::proofs::RefusalLaws::rest_first))]
+fn rest_refusal(t: Traits, second: u16, lent: &Lent<'_>, m: Machine) -> Answer
+    ensures { result ≡ first_given (rest_rows t second (length lent.now.given.input) lent.now.output_length m) }
 {
-    let port = t.port;
-    let spent = is_port_spent(port, input_length, output_length, m);
-    if spent & is_input(port) {
+    let spent = is_port_spent(t.port, lent, m);
+    if spent & is_input(t.port) {
         return Err(Refusal::InputDry);
     }
     if is_program_absent(t.table, m.cnf, table_address(m, second)) {
@@ -125,19 +98,10 @@ fn rest_refusal(
 }
 
 // The first of the last rows of the order that holds, for an operand in this region.
-pub fn pass_refusal(
-    t: Traits,
-    region: Region,
-    second: u16,
-    input_length: usize,
-    output_length: usize,
-    m: Machine,
-) -> Answer
-    ensures { result ≡ pass_refusal t region second input_length output_length m }
+#[tactic(auto, using(steps::proofs::RefusalLaws::pass_first))]
+pub fn pass_refusal(t: Traits, region: Region, second: u16, lent: &Lent<'_>, m: Machine) -> Answer
+    ensures { result ≡ pass_refusal t region second (length lent.now.given.input) lent.now.output_length m }
 {
-    let asked = access_refusal(t, region);
-    if is_done(asked) {
-        return rest_refusal(t, second, input_length, output_length, m);
-    }
-    asked
+    access_refusal(t, region)?;
+    rest_refusal(t, second, lent, m)
 }

@@ -9,38 +9,20 @@ use board::Region;
 pub fn region_present(region: Region) -> bool
     ensures { result ≡ present region }
 {
-    match region {
-        Region::Absent => false,
-        Region::B2 => true,
-        Region::B0 => true,
-        Region::B1 => true,
-        Region::External => true,
-    }
+    !matches!(region, Region::Absent)
 }
 
 pub fn region_on_chip(region: Region) -> bool
     ensures { result ≡ on_chip_region region }
 {
-    match region {
-        Region::Absent => false,
-        Region::B2 => true,
-        Region::B0 => true,
-        Region::B1 => true,
-        Region::External => false,
-    }
+    matches!(region, Region::B2 | Region::B0 | Region::B1)
 }
 
 // How often one access to a region goes to external RAM.
 pub fn access_outside(region: Region) -> u16
     ensures { result ≡ access_outside region }
 {
-    match region {
-        Region::Absent => 0,
-        Region::B2 => 0,
-        Region::B0 => 0,
-        Region::B1 => 0,
-        Region::External => 1,
-    }
+    u16::from(matches!(region, Region::External))
 }
 
 pub fn data_region(cnf: u8, address: u32) -> Region

@@ -1,12 +1,9 @@
 // The program `replay`: reads one run file from standard input and prints its line. Only reading and writing are assumed.
 #![tactic(auto)]
 
+use printing::print_replay;
 use std::io;
 
 fn main(rt: HostRuntime) -> io::Result<()> {
-    let mut file = [0; 16401];
-    let count = filling::fill(&mut rt.stdin(), &mut file)?;
-    let mut line = [0; 5145];
-    let end = replaying::replayed(&file, count, &mut line);
-    rt.write_all(&line[..end])
+    print_replay(&mut rt.stdin(), &mut io::writer(&rt))
 }

@@ -1,5 +1,5 @@
 -- Adding and then subtracting, and the register that ARP points at: proofs over RowLaws.antt of specs/.
-use Rattle.std.specs.Prelude.{◌≡◌, true, ℕ, zero, suc, ◌≤◌}
+use Rattle.std.specs.Prelude.{◌≡◌, true, ℕ, zero, suc, ◌≤◌, None}
 use Rattle.std.proofs.Common.{sym, ◌∙◌, ap, arith}
 use Rattle.alu.specs.Registers.{reversed_sum}
 use Rattle.alu.specs.ReversedLaws.{sum_undone}
@@ -10,7 +10,6 @@ use Rattle.machine.specs.Range.{in_range}
 use Rattle.machine.specs.RangeLaws.{ranged, word_most}
 use Rattle.operands.specs.declared.Modification.{Modification}
 use Rattle.operands.specs.declared.Modification.TheVariants.{PlusReversed, MinusReversed}
-use Rattle.operands.specs.declared.NextArp.TheVariants.{Same}
 use Rattle.pages.specs.Addressing.{moved, pointed, modified}
 use Rattle.row_order.specs.RowOrder.{index_added, Restores, row_after, index_added_times, OneRegister}
 use Rattle.row_order.specs.RowLaws.{put_again, holds, index_stays}
@@ -18,7 +17,7 @@ use Rattle.row_order.specs.RowLaws.{put_again, holds, index_stays}
 module _ (m : Machine) (ok : in_range m ≡ true) (other : 1 ≤ m.arp) where
   -- a modification of what was put there
   moves : (way : Modification) (x : ℕ)
-      → modified (record { modification = way; next = Same }) (with_register m m.arp x) ≡ with_register m m.arp (moved way x (register m 0))
+      → modified (record { modification = way; next = None }) (with_register m m.arp x) ≡ with_register m m.arp (moved way x (register m 0))
   unfolding modified pointed
   moves way x = rw (holds m ok other x, index_stays m ok other x) (put_again m m.arp x (moved way x (register m 0)))
 

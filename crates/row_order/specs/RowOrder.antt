@@ -1,22 +1,21 @@
 -- The row order of the transform (document 02, request 8): what operands with reversed carry do to a machine, and the values that a register
 -- takes. The laws of the sum itself, of registers alone, are in crates/alu/specs/ReversedLaws.antt.
-use Rattle.std.specs.Prelude.{◌≡◌, true, ℕ, zero, suc, ◌^◌, ◌≤◌, ◌<◌}
+use Rattle.std.specs.Prelude.{◌≡◌, true, ℕ, zero, suc, ◌^◌, ◌≤◌, ◌<◌, None}
 use Rattle.alu.specs.Registers.{reversed}
 use Rattle.machine.specs.declared.Machine.{Machine}
 use Rattle.machine.specs.Cells.{register, with_register}
 use Rattle.machine.specs.Range.{in_range}
 use Rattle.operands.specs.declared.Modification.TheVariants.{PlusReversed, MinusReversed}
-use Rattle.operands.specs.declared.NextArp.TheVariants.{Same}
 use Rattle.pages.specs.Addressing.{moved, modified}
 
 -- ---- adding and then subtracting
 
 -- the machine after the operand *BR0+, and after *BR0-, with no next ARP
 abbrev pub index_added : Machine → Machine
-index_added m = modified (record { modification = PlusReversed; next = Same }) m
+index_added m = modified (record { modification = PlusReversed; next = None }) m
 
 abbrev pub index_subtracted : Machine → Machine
-index_subtracted m = modified (record { modification = MinusReversed; next = Same }) m
+index_subtracted m = modified (record { modification = MinusReversed; next = None }) m
 
 -- "Adding and then subtracting the same AR0 restores any register but AR0 itself": with ARP from 1 to 7 the whole machine is as it was
 abbrev pub Restores : Type 0

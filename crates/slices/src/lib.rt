@@ -1,10 +1,11 @@
 // The lent slices: their sizes, words and parts read from them, stores into them.
 #![tactic(auto)]
 
-ghost use Rattle.std.specs.Prelude.{◌≡◌, min, length, get_or, set, replicate};
+ghost use Rattle.std.specs.Prelude.{◌≡◌, get_or, set};
 ghost use Rattle.std.proofs.Math.Seq.{slice};
 ghost use Rattle.board.specs.Slices.{memories_fit, port_fits, port_spent, slices_fit, part_start, data_page_stored};
 
+use board::Lent;
 use machine::Machine;
 
 const MEMORY_WORDS: usize = 4096;
@@ -35,25 +36,14 @@ pub fn port_spent(size: usize, cursor: u16) -> bool
 }
 
 // Check 2 of a step or a run.
-pub fn slices_fit(
-    m: Machine,
-    rom: &[u16],
-    data: &[u16],
-    input: &[u16],
-    output_length: usize,
-) -> bool
-    ensures { result ≡ slices_fit m rom.now «data».now input.now output_length }
+#[tactic(auto, unfolding(board::specs::Slices::slices_fit))]
+pub fn slices_fit(m: Machine, lent: &Lent<'_>) -> bool
+    ensures { result ≡ slices_fit m lent.now.given.rom lent.now.«data» lent.now.given.input lent.now.output_length }
 {
-    let memories = memories_fit(rom, data);
-    let reads = port_fits(input.len(), m.input_cursor);
-    let sends = port_fits(output_length, m.output_cursor);
+    let memories = memories_fit(lent.rom(), lent.data());
+    let reads = port_fits(lent.input().len(), m.input_cursor);
+    let sends = port_fits(lent.output_length(), m.output_cursor);
     memories & reads & sends
-}
-
-fn lesser(a: usize, b: usize) -> usize
-    ensures { result ≡ min a b }
-{
-    if a < b { a } else { b }
 }
 
 // The words at `from` up to, not including, `to`. The bounds are cut to the slice, so that every caller is answered.
@@ -61,8 +51,8 @@ pub fn part<'a>(words: &'a [u16], from: usize, to: usize) -> &'a [u16]
     ensures result_value { result.now ≡ slice from to words.now }
     ensures ref_ptr_value { result.ref_ptr ≡ part_start from to words.entry }
 {
-    let end = lesser(to, words.len());
-    let start = lesser(from, end);
+    let end = to.min(words.len());
+    let start = from.min(end);
     &words[start..end]
 }
 
@@ -88,17 +78,6 @@ pub fn store_at(words: &mut [u16], at: u16, word: u16)
     let i = at as usize;
     if i < words.len() {
         words[i] = word;
-    }
-}
-
-// Every word becomes 0.
-pub fn clear(words: &mut [u16])
-    ensures { words.new ≡ replicate (length words.old) 0 }
-{
-    let mut i: usize = 0;
-    while i < words.len() {
-        words[i] = 0;
-        i += 1;
     }
 }
 

@@ -1,5 +1,5 @@
 -- Demand 3, over every run that is not refused.
-use Rattle.std.specs.Prelude.{◌≡◌, true, List, length}
+use Rattle.std.specs.Prelude.{◌≡◌, true, List, length, None}
 use Rattle.std.proofs.Math.Path.{refl, ap}
 use Rattle.std.proofs.Common.{sym, ◌∙◌, subst}
 use Prim.Native.Nat.{ℕ, zero, suc, ◌+◌, ◌-◌, ◌≤◌}
@@ -11,9 +11,7 @@ use Rattle.answers.proofs.NumberLaws.{done_is}
 use Rattle.instructions.specs.declared.Instruction.TheVariants as Family
 use Rattle.instructions.specs.declared.Multiplier.TheVariants.{Apac}
 use Rattle.instructions.specs.declared.Decoded.TheVariants.{Built}
-use Rattle.pages.specs.declared.Operand.TheVariants as Operand
 use Rattle.pages.specs.Traits.{traits_of, multiplier_traits}
-use Rattle.pages.specs.declared.Jump.TheVariants.{Past}
 use Rattle.pages.specs.Addressing.{addressed}
 use Rattle.pages.specs.MultiplierPages.{APAC}
 use Rattle.pages.specs.MultiplierRule.{multiplier_rule}
@@ -38,8 +36,8 @@ apac_page : (g : Given) (u : World) (second : ℕ)
     → accumulation_of (after_store (performed (traits_of (Family.Multiplier Apac)) (Family.Multiplier Apac) second g u.«data» u.m) u).m ≡ product_added u.m.pm u.m.ovm (accumulation_of u.m)
 unfolding after_store performed passed_machine effect_of traits_of multiplier_traits rule_of multiplier_rule
 apac_page g u second =
-    (followed_follows (APAC (addressed Operand.Nothing u.m)) Past 1 true).accumulation
-    ∙ apac_works u.m (addressed Operand.Nothing u.m) (operand_alike Operand.Nothing u.m)
+    (followed_follows (APAC (addressed None u.m)) None 1 true).accumulation
+    ∙ apac_works u.m (addressed None u.m) (operand_alike None u.m)
 
 apac_step : (g : Given) (u : World) → decoded_at g u.«data» u.m ≡ Built (Family.Multiplier Apac) → is_done (step_of g u).answer ≡ true
     → accumulation_of (step_of g u).world.m ≡ product_added u.m.pm u.m.ovm (accumulation_of u.m)

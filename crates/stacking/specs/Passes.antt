@@ -1,5 +1,5 @@
 -- The repeat instruction, the passes and the final product add, step by step.
-use Rattle.std.specs.Prelude.{◌≡◌, Bool, cond, List, [], ◌∷◌, ℕ, zero, suc, ◌+◌, ◌-◌, ◌^◌, ◌≤◌, ◌<◌, set}
+use Rattle.std.specs.Prelude.{◌≡◌, Bool, cond, List, [], ◌∷◌, ℕ, zero, suc, ◌+◌, ◌-◌, ◌^◌, ◌≤◌, ◌<◌, set, None, Some}
 use Rattle.std.proofs.Math.Path.{refl, ap}
 use Rattle.std.proofs.Common.{◌∙◌, arith}
 use Rattle.std.proofs.Math.Bool.{true, false}
@@ -10,9 +10,7 @@ use Rattle.answers.specs.Numbers.{is_done}
 use Rattle.answers.proofs.NumberLaws.{done_is}
 use Rattle.instructions.specs.declared.Instruction.{Instruction}
 use Rattle.instructions.specs.declared.Decoded.TheVariants.{Built}
-use Rattle.pages.specs.declared.Operand.TheVariants.{At}
 use Rattle.pages.specs.Traits.{traits_of, multiplier_traits}
-use Rattle.pages.specs.declared.Jump.TheVariants.{Past}
 use Rattle.pages.specs.Passes.{followed}
 use Rattle.pages.specs.Addressing.{addressed, address_of}
 use Rattle.pages.specs.MultiplierPages.{APAC, MAC, MACD}
@@ -92,10 +90,10 @@ pub record Went (g : Given) (w v : World) (pair : Pair) : Type 0 where
 -- the machine of a pass, whatever it stores
 module _ (g : Given) (w : World) (n : Machine) (a : Alike w.m n) (word table at : ℕ) (d output : List ℕ)
     (program : (x : ℕ) → program_word w.m.cnf x g.rom d ≡ program_word w.m.cnf x g.rom w.«data») (sized : Sized w.«data» → Sized d) where
-  went : Went g w (record { m = followed (MAC word table at n) Past 2 true; «data» = d; output = output }) (record { data_word = word; program_word = table })
+  went : Went g w (record { m = followed (MAC word table at n) None 2 true; «data» = d; output = output }) (record { data_word = word; program_word = table })
   unfolding MAC APAC
   went =
-      let f = followed_follows (MAC word table at n) Past 2 true in
+      let f = followed_follows (MAC word table at n) None 2 true in
       record {
         accumulation = f.accumulation ∙ mac_works w.m n a word table at;
         ovm = f.ovm ∙ a.ovm;
@@ -123,11 +121,11 @@ module _ (g : Given) (w : World) (data_sized : Sized w.«data») where
       → Went g w (after_store (performed (traits_of i) i (second_word i g w.«data» w.m) g w.«data» w.m) w) (pair_for (Built i) g w)
   unfolding after_store performed passed_machine passed_write effect_of traits_of multiplier_traits rule_of multiplier_rule MACD write_of data_after output_after words_read found_for operand_found found_at pair_for
   goes _ (by_mac a) =
-      went g w (addressed (At a) w.m) (operand_alike (At a) w.m) _ _ _ w.«data» _ (λ x. refl) (λ s. s)
+      went g w (addressed (Some a) w.m) (operand_alike (Some a) w.m) _ _ _ w.«data» _ (λ x. refl) (λ s. s)
   goes _ (by_macd a) =
-      let word = get_or w.«data» (address_of (At a) w.m) 0 in
-      let v = moved_by g.rom (data_region w.m.cnf (address_of (At a) w.m)) w.m.cnf (address_of (At a) w.m) word w.«data» (data_sized.bits (address_of (At a) w.m)) (move_allowed (data_region w.m.cnf (address_of (At a) w.m)) w.m.cnf (address_of (At a) w.m)) refl in
-      went g w (addressed (At a) w.m) (operand_alike (At a) w.m) word _ _ _ _ v.program v.sized
+      let word = get_or w.«data» (address_of (Some a) w.m) 0 in
+      let v = moved_by g.rom (data_region w.m.cnf (address_of (Some a) w.m)) w.m.cnf (address_of (Some a) w.m) word w.«data» (data_sized.bits (address_of (Some a) w.m)) (move_allowed (data_region w.m.cnf (address_of (Some a) w.m)) w.m.cnf (address_of (Some a) w.m)) refl in
+      went g w (addressed (Some a) w.m) (operand_alike (Some a) w.m) word _ _ _ _ v.program v.sized
 
   pub goes_on : (i : Instruction) → Accumulates i → decoded_at g w.«data» w.m ≡ Built i → is_done (step_of g w).answer ≡ true
       → Went g w (step_of g w).world (pair_at g w)

@@ -1,5 +1,5 @@
 -- What the steps of a stack do to the cells that matter, and that they leave the program alone.
-use Rattle.std.specs.Prelude.{◌≡◌, Bool, cond, ◌&&◌, List, ℕ, suc, ◌+◌, ◌-◌, ◌≤◌, ltb, set}
+use Rattle.std.specs.Prelude.{◌≡◌, Bool, cond, ◌&&◌, List, ℕ, suc, ◌+◌, ◌-◌, ◌≤◌, ltb, set, Option, None}
 use Rattle.std.proofs.Math.Path.{refl, sym}
 use Rattle.std.proofs.Common.{◌∙◌, arith, lt-ltb, le-ltb}
 use Rattle.std.proofs.Math.Bool.{true, false}
@@ -7,8 +7,6 @@ use Rattle.std.proofs.lemmas.Bool.{false≢true}
 use Rattle.std.proofs.Math.Seq.{get_or-set_other}
 use Rattle.alu.specs.Registers.{wrapped_sum}
 use Rattle.machine.specs.declared.Machine.{Machine}
-use Rattle.pages.specs.declared.Jump.{Jump}
-use Rattle.pages.specs.declared.Jump.TheVariants.{Past}
 use Rattle.pages.specs.Passes.{followed, destination}
 use Rattle.pages.specs.MultiplierPages.{APAC, MAC}
 use Rattle.board.specs.Regions.{data_region, on_chip, on_chip_region, move_allowed, in_rom, in_program_b0}
@@ -35,7 +33,7 @@ follows_by : (t : Bool) (m a b : Machine) → Follows m a → Follows m b → Fo
 follows_by true m a b f g = f
 follows_by false m a b f g = g
 
-pub followed_follows : (m : Machine) (jump : Jump) (words : ℕ) (repeatable : Bool) → Follows m (followed m jump words repeatable)
+pub followed_follows : (m : Machine) (jump : Option ℕ) (words : ℕ) (repeatable : Bool) → Follows m (followed m jump words repeatable)
 unfolding followed accumulation_of
 followed_follows m jump words repeatable =
     follows_by (repeatable && ltb 0 m.rptc) m _ _
@@ -43,11 +41,11 @@ followed_follows m jump words repeatable =
     (record { accumulation = refl; ovm = refl; pm = refl; cnf = refl })
 
 -- a repeat that is pending: RPTC falls by 1 and PC stays; else PC moves past
-pub again : (m : Machine) (words k : ℕ) → m.rptc ≡ suc k → ((followed m Past words true).rptc ≡ k) × ((followed m Past words true).pc ≡ m.pc)
+pub again : (m : Machine) (words k : ℕ) → m.rptc ≡ suc k → ((followed m None words true).rptc ≡ k) × ((followed m None words true).pc ≡ m.pc)
 unfolding followed
 again m words k e = rw (lt-ltb 0 m.rptc (omega arith)) (omega arith, refl)
 
-pub goes_past : (m : Machine) (words : ℕ) → m.rptc ≡ 0 → (followed m Past words true).pc ≡ wrapped_sum m.pc words
+pub goes_past : (m : Machine) (words : ℕ) → m.rptc ≡ 0 → (followed m None words true).pc ≡ wrapped_sum m.pc words
 unfolding followed destination
 goes_past m words e = rw (le-ltb 0 m.rptc (omega arith))
 

@@ -1,5 +1,5 @@
 -- The stack at the edges meets the premises, and comes to what was worked out by hand.
-use Rattle.std.specs.Prelude.{refl, List, [], ℕ, get_or}
+use Rattle.std.specs.Prelude.{refl, List, [], ℕ, get_or, None}
 use Rattle.std.proofs.Common.{ap, arith}
 use Rattle.alu.specs.Word.{signed, low}
 use Rattle.alu.specs.Sums.{holds, held, settled, carry, added}
@@ -36,7 +36,6 @@ use Rattle.instructions.specs.declared.Instruction.TheVariants as Family
 use Rattle.operands.specs.declared.Address.{Address}
 use Rattle.operands.specs.declared.Address.TheVariants.{Direct, Indirect}
 use Rattle.operands.specs.declared.Modification.TheVariants.{Plus}
-use Rattle.operands.specs.declared.NextArp.TheVariants.{Same}
 use Rattle.instructions.specs.declared.Modes.TheVariants.{Rpt}
 use Rattle.instructions.specs.declared.Multiplier.TheVariants.{Macd}
 use Rattle.frame_sums.specs.Frames.{exact_sum}
@@ -52,7 +51,7 @@ edge_case = record { comes_to = refl; leaves = refl; reads = refl; exact = refl 
 
 -- *+
 abbrev plus_one : Address
-plus_one = Indirect (record { modification = Plus; next = Same })
+plus_one = Indirect (record { modification = Plus; next = None })
 
 pub edge_stacks : Stacks (given edge_rom []) edge_world 3
 unfolding word_ahead all_sized wrapped_sum reset_machine low_fits modification_of next_of indirect_of address_mode_of decode_of address_of in_rom in_program_b0 window_of program_word decoded_at edge_rom edge_data edge_machine edge_world edge_run

@@ -11,7 +11,7 @@ use Rattle.machine.specs.declared.Machine.{Machine}
 use Rattle.answers.specs.Answers.{Answer}
 use Rattle.answers.specs.Answers.{Done}
 use Rattle.answers.specs.Numbers.{is_done}
-use Rattle.steps.specs.declared.Plan.{Plan}
+use Rattle.steps.specs.Plan.{Plan}
 use Rattle.steps.specs.Rows.{Row, first_given, NoneHolds, holds_at}
 use Rattle.steps.specs.Pass.{refused, plan_by}
 

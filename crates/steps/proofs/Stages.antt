@@ -8,7 +8,7 @@ use Rattle.instructions.specs.declared.Decoded.{Decoded}
 use Rattle.instructions.specs.declared.Decoded.TheVariants.{Built}
 use Rattle.pages.specs.Traits.{traits_of}
 use Rattle.board.specs.Given.{Given}
-use Rattle.steps.specs.declared.Plan.{Plan}
+use Rattle.steps.specs.Plan.{Plan}
 use Rattle.steps.specs.Pass.{plan_by, pass_plan}
 use Rattle.steps.specs.Table.{decoded_at, second_word, check_rows, fetch_rows, encoding_rows, repeat_rows, instruction_rows, table_for}
 use Rattle.steps.specs.Step.{page_plan, plan_of}

@@ -9,7 +9,7 @@ use Rattle.instructions.specs.declared.Decoded.{Decoded}
 use Rattle.instructions.specs.declared.Decoded.TheVariants.{Built, Unbuilt, Nothing}
 use Rattle.board.specs.SliceLaws.{slices_fit_lem}
 use Rattle.board.specs.Given.{Given}
-use Rattle.steps.specs.declared.Plan.{Plan}
+use Rattle.steps.specs.Plan.{Plan}
 use Rattle.steps.specs.Rows.{NoneHolds}
 use Rattle.steps.specs.Refusals.{pass_rows, access_rows, rest_rows}
 use Rattle.steps.specs.Pass.{performed}

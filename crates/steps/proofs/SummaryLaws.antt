@@ -7,7 +7,7 @@ use Rattle.answers.specs.Answers.{Done, SummaryUnfit}
 use Rattle.answers.specs.Numbers.{is_done}
 use Rattle.answers.proofs.NumberLaws.{done_is}
 use Rattle.board.specs.Given.{Given}
-use Rattle.steps.specs.declared.Plan.{Plan}
+use Rattle.steps.specs.Plan.{Plan}
 use Rattle.steps.specs.declared.Write.{Write}
 use Rattle.steps.specs.declared.Write.TheVariants.{Nothing, Data, Sent}
 use Rattle.steps.specs.Rows.{first_given}
@@ -66,7 +66,7 @@ refused_adds g w s r = ap (λ (p : Plan). add_store p s) (refused_plan g w r)
 -- ---- 14 after 1 and 2
 
 module _ (s : List ℕ) (g : Given) (d : List ℕ) (o : ℕ) (m : Machine) where
-  by_checks : checks_with s g d o m ≡ cond (is_done (checks_of g d o m)) (cond (not (summary_fits s)) SummaryUnfit Done) (checks_of g d o m)
+  pub by_checks : checks_with s g d o m ≡ cond (is_done (checks_of g d o m)) (cond (not (summary_fits s)) SummaryUnfit Done) (checks_of g d o m)
   unfolding checks_with rows_with summary_rows checks_of check_rows first_given
   by_checks = first_append (check_rows g d o m) (summary_rows s) (all_refuse (check_rows g d o m) refl)
 

@@ -16,7 +16,7 @@ use Rattle.pages.specs.declared.Access.{Access}
 use Rattle.board.specs.declared.Region.{Region}
 use Rattle.board.specs.RegionLaws.{one_access}
 use Rattle.board.specs.Given.{Given}
-use Rattle.steps.specs.declared.Plan.{Plan}
+use Rattle.steps.specs.Plan.{Plan}
 use Rattle.steps.specs.OperandFound.{none_outside, outside_by}
 use Rattle.steps.specs.Pass.{refused, performed}
 use Rattle.steps.specs.World.{World, Outcome}

@@ -1,5 +1,6 @@
 -- definitions
 pub mod Stores
+pub mod Plan
 pub mod Rows
 pub mod OperandFound
 pub mod Refusals

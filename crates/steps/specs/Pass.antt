@@ -1,8 +1,9 @@
 -- One pass of an instruction, decoded, with its second word: the words that it reads, what it makes of the machine, and its plan.
-use Rattle.std.specs.Prelude.{cond, List, [], ◌∷◌, ℕ, length, get_or}
+use Rattle.std.specs.Prelude.{cond, List, [], ◌∷◌, ℕ, length, get_or, Result, Ok, Err}
 use Rattle.machine.specs.declared.Machine.{Machine}
 use Rattle.answers.specs.Answers.{Answer}
 use Rattle.answers.specs.Answers.{Done}
+use Rattle.answers.specs.declared.Refusal.{Refusal}
 use Rattle.instructions.specs.declared.Instruction.{Instruction}
 use Rattle.pages.specs.declared.Traits.{Traits}
 use Rattle.pages.specs.declared.Effect.{Effect}
@@ -19,7 +20,8 @@ use Rattle.steps.specs.Refusals.{pass_rows}
 use Rattle.steps.specs.Stores.{write_of}
 use Rattle.steps.specs.declared.Write.{Write}
 use Rattle.steps.specs.declared.Write.TheVariants.{Nothing}
-use Rattle.steps.specs.declared.Plan.{Plan}
+use Rattle.steps.specs.declared.Pass.{Pass}
+use Rattle.steps.specs.Plan.{Plan}
 
 -- ---- what a pass reads and does
 
@@ -57,6 +59,11 @@ refused m answer = record { m = m; answer = answer; write = Nothing; outside = n
 unfoldable pub plan_by : List Row → Machine → Plan → Plan
 plan_by [] m plan = plan
 plan_by (r ∷ rows) m plan = cond r.given (refused m r.answer) (plan_by rows m plan)
+
+-- the plan of what the code gives: a pass that is done, or a refusal
+abbrev pub planned : Machine → Result Pass Refusal → Plan
+planned m (Ok pass) = record { m = pass.m; answer = Done; write = pass.write; outside = pass.outside }
+planned m (Err refusal) = refused m (Err refusal)
 
 unfoldable pub performed : Traits → Instruction → ℕ → Given → List ℕ → Machine → Plan
 performed t i second g «data» m = record {

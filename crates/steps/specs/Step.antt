@@ -7,7 +7,7 @@ use Rattle.instructions.specs.declared.Decoded.{Decoded}
 use Rattle.instructions.specs.declared.Decoded.TheVariants.{Built, Unbuilt, Nothing}
 use Rattle.pages.specs.Traits.{traits_of}
 use Rattle.board.specs.Given.{Given}
-use Rattle.steps.specs.declared.Plan.{Plan}
+use Rattle.steps.specs.Plan.{Plan}
 use Rattle.steps.specs.Stores.{data_after, output_after}
 use Rattle.steps.specs.Pass.{performed, refused, plan_by}
 use Rattle.steps.specs.World.{World, Outcome, RunOutcome}

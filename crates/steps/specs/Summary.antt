@@ -6,7 +6,7 @@ use Rattle.answers.specs.Answers.{Done, SummaryUnfit}
 use Rattle.answers.specs.Numbers.{is_done}
 use Rattle.board.specs.Given.{Given}
 use Rattle.steps.specs.declared.Outside.{Outside}
-use Rattle.steps.specs.declared.Plan.{Plan}
+use Rattle.steps.specs.Plan.{Plan}
 use Rattle.steps.specs.declared.Write.{Write}
 use Rattle.steps.specs.declared.Write.TheVariants.{Nothing, Data, Sent}
 use Rattle.steps.specs.Rows.{Row, row, first_given}

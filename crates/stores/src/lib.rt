@@ -16,9 +16,10 @@ pub fn write_of(store: Store, region: Region, cnf: u8, address: u32, cursor: u16
         Store::Word(word) => Write::Data(address, word),
         Store::Move(word) => {
             if regions::move_allowed(region, cnf, address) {
-                return Write::Data(address + 1, word);
+                Write::Data(address + 1, word)
+            } else {
+                Write::Nothing
             }
-            Write::Nothing
         }
         Store::Sent(word) => Write::Sent(cursor, word),
     }

@@ -4,7 +4,7 @@
 ghost use Rattle.std.specs.Prelude.{◌≡◌, ◌+◌, min};
 ghost use Rattle.steps.specs.Summary.{summary_fits, summary_answer, reset_summary, word_counted, store_counted};
 
-use answers::Answer;
+use answers::{Answer, Refusal};
 use steps::Write;
 
 // The numbers of a summary.
@@ -17,6 +17,7 @@ const DATA_PAGE_WORDS: u32 = 128;
 
 const DATA_WORDS: u32 = 4096;
 
+#[tactic(auto, unfolding(steps::specs::Summary::summary_fits))]
 pub fn summary_fits(summary: &[u16]) -> bool
     ensures { result ≡ summary_fits summary.now }
 {
@@ -24,6 +25,7 @@ pub fn summary_fits(summary: &[u16]) -> bool
 }
 
 // A fresh summary, whatever it held. A slice of another length is refused and left as it is.
+#[tactic(auto, unfolding(steps::specs::Summary::summary_answer, steps::specs::Summary::reset_summary, steps::specs::Summary::summary_fits))]
 pub fn reset_summary(summary: &mut [u16]) -> Answer
     ensures answered { result ≡ summary_answer summary.old }
     ensures fresh { summary.new ≡ reset_summary summary.old }
@@ -31,7 +33,7 @@ pub fn reset_summary(summary: &mut [u16]) -> Answer
     if !summary_fits(summary) {
         return Err(Refusal::SummaryUnfit);
     }
-    slices::clear(summary);
+    summary.fill(0);
     Ok(())
 }
 
@@ -44,6 +46,7 @@ fn one_more(count: u16) -> u16
 
 // The two numbers of a page. Whether both places are there is asked once, of the summary's length and the address: asked of each place by itself it takes
 // more instructions, also of steps that store nothing (docs/PERFORMANCE.md).
+#[tactic(auto, unfolding(steps::specs::Summary::word_counted, steps::specs::Summary::page_counted, steps::specs::Summary::counted_at, steps::specs::Summary::summary_fits))]
 fn count_word(summary: &mut [u16], address: u32, ov: u8)
     ensures { summary.new ≡ word_counted address ov summary.old }
 {
@@ -57,6 +60,7 @@ fn count_word(summary: &mut [u16], address: u32, ov: u8)
 }
 
 // What a step's store adds, with OV as the step leaves it.
+#[tactic(auto, unfolding(steps::specs::Summary::store_counted))]
 pub fn count_store(summary: &mut [u16], write: Write, ov: u8)
     ensures { summary.new ≡ store_counted write ov summary.old }
 {

@@ -9,6 +9,7 @@ ghost use Rattle.sums.specs.SumLaws.{net, held_as};
 use alu::Sum;
 
 // ACC after an exact result that is over the largest number, under the smallest, or neither.
+#[tactic(auto, unfolding(crate::specs::SumLaws::held_as))]
 fn held_word(low: u32, over: bool, under: bool, ovm: u8) -> u32
     ensures { result ≡ held_as low over under ovm }
 {
@@ -34,6 +35,7 @@ fn overflow_flag(overflows: bool, ov: u8) -> u8
 }
 
 // The exact result `m` less `less` times 2^32, brought to 32 bits. Each cell by itself: the compiler then keeps them in registers.
+#[tactic(auto, using(crate::specs::SumLaws::settles))]
 fn settle(m: u64, less: u64, ov: u8, ovm: u8, c: u8) -> Sum
     requires { (m < 2 ^ 34) × (less < 4) }
     ensures { result ≡ settled (net m less) ov ovm c }
@@ -49,27 +51,32 @@ fn settle(m: u64, less: u64, ov: u8, ovm: u8, c: u8) -> Sum
     }
 }
 
+// A set sign bit is worth 2^32 less: ACC and `x`, less 2^32 for each, make the exact signed sum.
+#[tactic(auto, using(crate::specs::SumLaws::add_settled), unfolding(alu::specs::Sums::added, alu::specs::Sums::carry))]
 pub fn add(acc: u32, x: u32, ov: u8, ovm: u8) -> Sum
     ensures { result ≡ added acc x ov ovm }
 {
-    let m = (acc as u64) + (x as u64);
-    let less = (acc / 2147483648 + x / 2147483648) as u64;
+    let m = u64::from(acc) + u64::from(x);
+    let less = u64::from(acc / 2147483648 + x / 2147483648);
     settle(m, less, ov, ovm, (m / 4294967296) as u8)
 }
 
+// With 2^32 added the difference never goes below 0, and the bit above the 32 is 1 just where nothing is borrowed.
+#[tactic(auto, using(crate::proofs::DifferenceLaws::subtract_settled))]
 pub fn subtract(acc: u32, x: u32, ov: u8, ovm: u8) -> Sum
     ensures { result ≡ subtracted acc x ov ovm }
 {
-    let m = (acc as u64) + (4294967296 - (x as u64));
-    let less = (acc / 2147483648 + (1 - x / 2147483648)) as u64;
+    let m = u64::from(acc) + (4294967296 - u64::from(x));
+    let less = u64::from(acc / 2147483648 + (1 - x / 2147483648));
     settle(m, less, ov, ovm, (m / 4294967296) as u8)
 }
 
 // The word as ADDH, SUBH and ZALH take it.
+#[tactic(auto, unfolding(alu::specs::PageSums::in_high_half))]
 pub fn in_high_half(w: u16) -> u32
     ensures { result ≡ in_high_half w }
 {
-    (w as u32) * 65536
+    u32::from(w) * 65536
 }
 
 // ADDH: its carry can only set C.
@@ -81,14 +88,11 @@ pub fn add_high(acc: u32, w: u16, ov: u8, ovm: u8, c: u8) -> Sum
     if s.c == 1 {
         return s;
     }
-    Sum {
-        acc: s.acc,
-        ov: s.ov,
-        c,
-    }
+    Sum { c, ..s }
 }
 
 // SUBH: its borrow can only reset C.
+#[tactic(auto, using(crate::specs::PageSumLaws::subtract_high_resets, crate::specs::PageSumLaws::subtract_high_keeps))]
 pub fn subtract_high(acc: u32, w: u16, ov: u8, ovm: u8, c: u8) -> Sum
     ensures { result ≡ subtracted_high acc w ov ovm c }
 {
@@ -96,14 +100,11 @@ pub fn subtract_high(acc: u32, w: u16, ov: u8, ovm: u8, c: u8) -> Sum
     if s.c == 0 {
         return s;
     }
-    Sum {
-        acc: s.acc,
-        ov: s.ov,
-        c,
-    }
+    Sum { c, ..s }
 }
 
 // SUBC. The difference is taken with OVM 0: SUBC holds nothing.
+#[tactic(auto, using(crate::specs::PageSumLaws::conditionally_taken, crate::specs::PageSumLaws::conditionally_left))]
 pub fn subtract_conditionally(acc: u32, x: u32, ov: u8) -> Sum
     ensures { result ≡ subtracted_conditionally acc x ov }
 {
@@ -111,18 +112,17 @@ pub fn subtract_conditionally(acc: u32, x: u32, ov: u8) -> Sum
     if s.acc < 2147483648 {
         return Sum {
             acc: s.acc * 2 + 1,
-            ov: s.ov,
-            c: s.c,
+            ..s
         };
     }
     Sum {
         acc: acc % 2147483648 * 2,
-        ov: s.ov,
-        c: s.c,
+        ..s
     }
 }
 
 // NEG
+#[tactic(auto, using(crate::specs::PageSumLaws::negated_is))]
 pub fn negate(acc: u32, ov: u8, ovm: u8) -> Sum
     ensures { result ≡ negated acc ov ovm }
 {
@@ -130,16 +130,15 @@ pub fn negate(acc: u32, ov: u8, ovm: u8) -> Sum
 }
 
 // ABS
+#[tactic(auto, using(crate::specs::PageSumLaws::absolute_same, crate::specs::PageSumLaws::absolute_negated))]
 pub fn absolute_value(acc: u32, ov: u8, ovm: u8) -> Sum
     ensures { result ≡ absolute acc ov ovm }
 {
     if acc < 2147483648 {
         return Sum { acc, ov, c: 0 };
     }
-    let s = negate(acc, ov, ovm);
     Sum {
-        acc: s.acc,
-        ov: s.ov,
         c: 0,
+        ..negate(acc, ov, ovm)
     }
 }

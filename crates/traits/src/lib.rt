@@ -6,44 +6,31 @@ ghost use Rattle.pages.specs.Traits.{plain, constant, reading, writing, modifyin
 
 use instructions::{Accumulator, Auxiliary, Branches, Instruction, Modes, Multiplier, Transfers};
 use operands::{Address, Indirect};
-use pages::{Access, Operand, Port, Traits};
+use pages::{Access, Port, Traits};
 
-fn plain_traits() -> Traits
-    ensures { result ≡ plain }
-{
-    Traits {
-        operand: Operand::Nothing,
-        words: 1,
-        repeatable: true,
-        access: Access::None,
-        table: false,
-        port: Port::None,
-    }
-}
+// No operand, one word, repeatable: the others name what they have besides.
+const PLAIN: Traits = Traits {
+    operand: None,
+    words: 1,
+    repeatable: true,
+    access: Access::None,
+    table: false,
+    port: Port::None,
+};
 
-fn constant_traits() -> Traits
-    ensures { result ≡ constant }
-{
-    Traits {
-        operand: Operand::Nothing,
-        words: 1,
-        repeatable: false,
-        access: Access::None,
-        table: false,
-        port: Port::None,
-    }
-}
+// No operand, one word, not repeatable.
+const CONSTANT: Traits = Traits {
+    repeatable: false,
+    ..PLAIN
+};
 
 fn reading_traits(a: Address) -> Traits
     ensures { result ≡ reading a }
 {
     Traits {
-        operand: Operand::At(a),
-        words: 1,
-        repeatable: true,
+        operand: Some(a),
         access: Access::Reads,
-        table: false,
-        port: Port::None,
+        ..PLAIN
     }
 }
 
@@ -51,12 +38,9 @@ fn writing_traits(a: Address) -> Traits
     ensures { result ≡ writing a }
 {
     Traits {
-        operand: Operand::At(a),
-        words: 1,
-        repeatable: true,
+        operand: Some(a),
         access: Access::Writes,
-        table: false,
-        port: Port::None,
+        ..PLAIN
     }
 }
 
@@ -64,12 +48,8 @@ fn modifying_traits(a: Address) -> Traits
     ensures { result ≡ modifying a }
 {
     Traits {
-        operand: Operand::At(a),
-        words: 1,
-        repeatable: true,
-        access: Access::None,
-        table: false,
-        port: Port::None,
+        operand: Some(a),
+        ..PLAIN
     }
 }
 
@@ -77,12 +57,10 @@ fn counting_traits(a: Address) -> Traits
     ensures { result ≡ counting a }
 {
     Traits {
-        operand: Operand::At(a),
-        words: 1,
+        operand: Some(a),
         repeatable: false,
         access: Access::Reads,
-        table: false,
-        port: Port::None,
+        ..PLAIN
     }
 }
 
@@ -90,12 +68,11 @@ fn tabled_traits(a: Address) -> Traits
     ensures { result ≡ tabled a }
 {
     Traits {
-        operand: Operand::At(a),
+        operand: Some(a),
         words: 2,
-        repeatable: true,
         access: Access::Reads,
         table: true,
-        port: Port::None,
+        ..PLAIN
     }
 }
 
@@ -103,12 +80,10 @@ fn branching_traits(i: Indirect) -> Traits
     ensures { result ≡ branching i }
 {
     Traits {
-        operand: Operand::At(Address::Indirect(i)),
+        operand: Some(Address::Indirect(i)),
         words: 2,
         repeatable: false,
-        access: Access::None,
-        table: false,
-        port: Port::None,
+        ..PLAIN
     }
 }
 
@@ -116,12 +91,10 @@ fn taking_traits(port: u8, a: Address) -> Traits
     ensures { result ≡ taking port a }
 {
     Traits {
-        operand: Operand::At(a),
-        words: 1,
-        repeatable: true,
+        operand: Some(a),
         access: Access::Writes,
-        table: false,
         port: Port::Input(port),
+        ..PLAIN
     }
 }
 
@@ -129,12 +102,10 @@ fn sending_traits(port: u8, a: Address) -> Traits
     ensures { result ≡ sending port a }
 {
     Traits {
-        operand: Operand::At(a),
-        words: 1,
-        repeatable: true,
+        operand: Some(a),
         access: Access::Reads,
-        table: false,
         port: Port::Output(port),
+        ..PLAIN
     }
 }
 
@@ -143,29 +114,26 @@ fn accumulator_traits(i: Accumulator) -> Traits
     ensures { result ≡ accumulator_traits i }
 {
     match i {
-        Accumulator::Add(_, a) => reading_traits(a),
-        Accumulator::Sub(_, a) => reading_traits(a),
-        Accumulator::Lac(_, a) => reading_traits(a),
-        Accumulator::Addh(a) => reading_traits(a),
-        Accumulator::Adds(a) => reading_traits(a),
-        Accumulator::Subh(a) => reading_traits(a),
-        Accumulator::Subs(a) => reading_traits(a),
-        Accumulator::Subc(a) => reading_traits(a),
-        Accumulator::Zalh(a) => reading_traits(a),
-        Accumulator::Zals(a) => reading_traits(a),
-        Accumulator::And(a) => reading_traits(a),
-        Accumulator::Or(a) => reading_traits(a),
-        Accumulator::Xor(a) => reading_traits(a),
-        Accumulator::Sacl(_, a) => writing_traits(a),
-        Accumulator::Sach(_, a) => writing_traits(a),
-        Accumulator::Lack(_) => constant_traits(),
-        Accumulator::Addk(_) => constant_traits(),
-        Accumulator::Subk(_) => constant_traits(),
-        Accumulator::Cmpl => plain_traits(),
-        Accumulator::Neg => plain_traits(),
-        Accumulator::Abs => plain_traits(),
-        Accumulator::Sfl => plain_traits(),
-        Accumulator::Sfr => plain_traits(),
+        Accumulator::Add(_, a)
+        | Accumulator::Sub(_, a)
+        | Accumulator::Lac(_, a)
+        | Accumulator::Addh(a)
+        | Accumulator::Adds(a)
+        | Accumulator::Subh(a)
+        | Accumulator::Subs(a)
+        | Accumulator::Subc(a)
+        | Accumulator::Zalh(a)
+        | Accumulator::Zals(a)
+        | Accumulator::And(a)
+        | Accumulator::Or(a)
+        | Accumulator::Xor(a) => reading_traits(a),
+        Accumulator::Sacl(_, a) | Accumulator::Sach(_, a) => writing_traits(a),
+        Accumulator::Lack(_) | Accumulator::Addk(_) | Accumulator::Subk(_) => CONSTANT,
+        Accumulator::Cmpl
+        | Accumulator::Neg
+        | Accumulator::Abs
+        | Accumulator::Sfl
+        | Accumulator::Sfr => PLAIN,
     }
 }
 
@@ -174,25 +142,20 @@ fn multiplier_traits(i: Multiplier) -> Traits
     ensures { result ≡ multiplier_traits i }
 {
     match i {
-        Multiplier::Lt(a) => reading_traits(a),
-        Multiplier::Lta(a) => reading_traits(a),
-        Multiplier::Ltp(a) => reading_traits(a),
-        Multiplier::Ltd(a) => reading_traits(a),
-        Multiplier::Lts(a) => reading_traits(a),
-        Multiplier::Mpy(a) => reading_traits(a),
-        Multiplier::Mpya(a) => reading_traits(a),
-        Multiplier::Mpys(a) => reading_traits(a),
-        Multiplier::Mpyk(_) => constant_traits(),
-        Multiplier::Sqra(a) => reading_traits(a),
-        Multiplier::Sqrs(a) => reading_traits(a),
-        Multiplier::Mac(a) => tabled_traits(a),
-        Multiplier::Macd(a) => tabled_traits(a),
-        Multiplier::Pac => plain_traits(),
-        Multiplier::Apac => plain_traits(),
-        Multiplier::Spac => plain_traits(),
-        Multiplier::Spl(a) => writing_traits(a),
-        Multiplier::Sph(a) => writing_traits(a),
-        Multiplier::Spm(_) => constant_traits(),
+        Multiplier::Lt(a)
+        | Multiplier::Lta(a)
+        | Multiplier::Ltp(a)
+        | Multiplier::Ltd(a)
+        | Multiplier::Lts(a)
+        | Multiplier::Mpy(a)
+        | Multiplier::Mpya(a)
+        | Multiplier::Mpys(a)
+        | Multiplier::Sqra(a)
+        | Multiplier::Sqrs(a) => reading_traits(a),
+        Multiplier::Mpyk(_) | Multiplier::Spm(_) => CONSTANT,
+        Multiplier::Mac(a) | Multiplier::Macd(a) => tabled_traits(a),
+        Multiplier::Pac | Multiplier::Apac | Multiplier::Spac => PLAIN,
+        Multiplier::Spl(a) | Multiplier::Sph(a) => writing_traits(a),
     }
 }
 
@@ -201,14 +164,11 @@ fn auxiliary_traits(i: Auxiliary) -> Traits
     ensures { result ≡ auxiliary_traits i }
 {
     match i {
-        Auxiliary::Lar(_, a) => reading_traits(a),
+        Auxiliary::Lar(_, a) | Auxiliary::Ldp(a) => reading_traits(a),
         Auxiliary::Sar(_, a) => writing_traits(a),
-        Auxiliary::Lark(_, _) => constant_traits(),
+        Auxiliary::Lark(_, _) | Auxiliary::Adrk(_) | Auxiliary::Sbrk(_) | Auxiliary::Ldpk(_) =>
+            CONSTANT,
         Auxiliary::Mar(a) => modifying_traits(a),
-        Auxiliary::Adrk(_) => constant_traits(),
-        Auxiliary::Sbrk(_) => constant_traits(),
-        Auxiliary::Ldp(a) => reading_traits(a),
-        Auxiliary::Ldpk(_) => constant_traits(),
     }
 }
 
@@ -217,18 +177,18 @@ fn branches_traits(i: Branches) -> Traits
     ensures { result ≡ branches_traits i }
 {
     match i {
-        Branches::B(indirect) => branching_traits(indirect),
-        Branches::Banz(indirect) => branching_traits(indirect),
-        Branches::Bz(indirect) => branching_traits(indirect),
-        Branches::Bnz(indirect) => branching_traits(indirect),
-        Branches::Bgz(indirect) => branching_traits(indirect),
-        Branches::Bgez(indirect) => branching_traits(indirect),
-        Branches::Blz(indirect) => branching_traits(indirect),
-        Branches::Blez(indirect) => branching_traits(indirect),
-        Branches::Bv(indirect) => branching_traits(indirect),
-        Branches::Bnv(indirect) => branching_traits(indirect),
-        Branches::Call(indirect) => branching_traits(indirect),
-        Branches::Ret => constant_traits(),
+        Branches::B(indirect)
+        | Branches::Banz(indirect)
+        | Branches::Bz(indirect)
+        | Branches::Bnz(indirect)
+        | Branches::Bgz(indirect)
+        | Branches::Bgez(indirect)
+        | Branches::Blz(indirect)
+        | Branches::Blez(indirect)
+        | Branches::Bv(indirect)
+        | Branches::Bnv(indirect)
+        | Branches::Call(indirect) => branching_traits(indirect),
+        Branches::Ret => CONSTANT,
     }
 }
 
@@ -248,16 +208,16 @@ fn modes_traits(i: Modes) -> Traits
     ensures { result ≡ modes_traits i }
 {
     match i {
-        Modes::Sovm => plain_traits(),
-        Modes::Rovm => plain_traits(),
-        Modes::Ssxm => plain_traits(),
-        Modes::Rsxm => plain_traits(),
-        Modes::Cnfd => plain_traits(),
-        Modes::Cnfp => plain_traits(),
+        Modes::Sovm
+        | Modes::Rovm
+        | Modes::Ssxm
+        | Modes::Rsxm
+        | Modes::Cnfd
+        | Modes::Cnfp
+        | Modes::Push
+        | Modes::Pop => PLAIN,
         Modes::Rpt(a) => counting_traits(a),
-        Modes::Rptk(_) => constant_traits(),
-        Modes::Push => plain_traits(),
-        Modes::Pop => plain_traits(),
+        Modes::Rptk(_) => CONSTANT,
     }
 }
 

@@ -21,8 +21,10 @@ fn dmov(w: u16, m: Machine) -> Effect
 fn input(next: u16, m: Machine) -> Effect
     ensures { result ≡ IN next m }
 {
-    let mut n = m;
-    n.input_cursor = registers::wrapped_sum(m.input_cursor, 1);
+    let n = Machine {
+        input_cursor: registers::wrapped_sum(m.input_cursor, 1),
+        ..m
+    };
     store_word(n, next)
 }
 
@@ -30,8 +32,10 @@ fn input(next: u16, m: Machine) -> Effect
 fn output(w: u16, m: Machine) -> Effect
     ensures { result ≡ OUT w m }
 {
-    let mut n = m;
-    n.output_cursor = registers::wrapped_sum(m.output_cursor, 1);
+    let n = Machine {
+        output_cursor: registers::wrapped_sum(m.output_cursor, 1),
+        ..m
+    };
     send_word(n, w)
 }
 

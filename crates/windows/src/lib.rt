@@ -4,12 +4,13 @@
 ghost use Rattle.std.specs.Prelude.{◌≡◌};
 ghost use Rattle.board.specs.Windows.{window_of, window_start, window_answer, window_shown, window_shown_start, words_sent_answer, words_sent};
 
-use answers::{Answer, is_done};
+use answers::{Answer, Refusal};
 use machine::Machine;
 use regions::{in_program_b0, in_rom, program_present};
 use slices::{memories_fit, part, port_fits};
 
 // The run of words from a program address to the end of its region, in whichever of the two memories holds it.
+#[tactic(auto, unfolding(board::specs::Windows::window_of, board::specs::Windows::window_start), using(board::specs::RegionLaws::program_b0))]
 pub fn region_window<'a>(cnf: u8, at: u16, rom: &'a [u16], data: &'a [u16]) -> &'a [u16]
     ensures result_value { result.now ≡ window_of cnf at rom.now «data».now }
     ensures ref_ptr_value { result.ref_ptr ≡ window_start cnf at rom.entry «data».entry }
@@ -25,6 +26,7 @@ pub fn region_window<'a>(cnf: u8, at: u16, rom: &'a [u16], data: &'a [u16]) -> &
 }
 
 // The answer to asking for a fetch window.
+#[tactic(auto, unfolding(board::specs::Windows::window_answer))]
 pub fn window_answer(m: Machine, at: u16, rom: &[u16], data: &[u16]) -> Answer
     ensures { result ≡ window_answer m at rom.now «data».now }
 {
@@ -41,17 +43,19 @@ pub fn window_answer(m: Machine, at: u16, rom: &[u16], data: &[u16]) -> Answer
 }
 
 // The fetch window, empty on a refusal.
+#[tactic(auto, unfolding(board::specs::Windows::window_shown, board::specs::Windows::window_shown_start))]
 pub fn window<'a>(m: Machine, at: u16, rom: &'a [u16], data: &'a [u16]) -> &'a [u16]
     ensures result_value { result.now ≡ window_shown m at rom.now «data».now }
     ensures ref_ptr_value { result.ref_ptr ≡ window_shown_start m at rom.entry «data».entry }
 {
-    if is_done(window_answer(m, at, rom, data)) {
+    if window_answer(m, at, rom, data).is_ok() {
         return region_window(m.cnf, at, rom, data);
     }
     &rom[..0]
 }
 
 // The answer to asking for the words sent.
+#[tactic(auto, unfolding(board::specs::Windows::words_sent_answer))]
 pub fn words_sent_answer(m: Machine, output: &[u16]) -> Answer
     ensures { result ≡ words_sent_answer m output.now }
 {
@@ -65,11 +69,12 @@ pub fn words_sent_answer(m: Machine, output: &[u16]) -> Answer
 }
 
 // The words sent on port 1: the first part of the output slice, up to the cursor; empty on a refusal.
+#[tactic(auto, unfolding(board::specs::Windows::words_sent))]
 pub fn words_sent<'a>(m: Machine, output: &'a [u16]) -> &'a [u16]
     ensures result_value { result.now ≡ words_sent m output.now }
     ensures ref_ptr_value { result.ref_ptr ≡ output.entry.ref_ptr }
 {
-    if is_done(words_sent_answer(m, output)) {
+    if words_sent_answer(m, output).is_ok() {
         let sent = m.output_cursor as usize;
         return &output[..sent];
     }

@@ -17,11 +17,12 @@ pub fn low_half(w: u32) -> u16
 pub fn from_halves(high: u16, low: u16) -> u32
     ensures { result ≡ from_halves high low }
 {
-    (high as u32) * 65536 + (low as u32)
+    u32::from(high) * 65536 + u32::from(low)
 }
 
+#[tactic(auto, using(alu::specs::WordLaws::sign_extends))]
 pub fn sign_extended(w: u16) -> u32
     ensures { result ≡ low 32 (signed 16 w) }
 {
-    (w as u32) + (w / 32768) as u32 * 0xFFFF_0000
+    u32::from(w) + u32::from(w / 32768) * 0xFFFF_0000
 }

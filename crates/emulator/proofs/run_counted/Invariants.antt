@@ -1,4 +1,3 @@
-use Prim.Native.Nat.{◌-◌}
 use Rattle.board.specs.Given.{given}
 use Rattle.emulator.specs.RunLaws.{Kept}
 use Rattle.emulator.proofs.run_counted.Given as goal
@@ -6,6 +5,3 @@ use Rattle.emulator.proofs.run_counted.Given as goal
 abbrev pub invariant-loop-steps : goal.invariant-loop-steps
 invariant-loop-steps l =
     Kept (given l.rom l.input) l.budget (record { m = l.initial.n; «data» = l.initial.«data»; output = l.initial.output }) l.initial.summary (record { m = l.n; «data» = l.«data»; output = l.output }) l.summary l.steps l.totals
-
-abbrev pub decreases-loop-steps : goal.decreases-loop-steps
-decreases-loop-steps l = l.budget - l.steps

@@ -3,4 +3,4 @@ use Rattle.board.specs.SliceLaws.{part_shown, part_begins}
 use Rattle.slices.proofs.part.Goals as goal
 
 pub returns : goal.returns
-returns c = let a = c.args in record { result_value = part_shown a.from a.to a.words.now _ _ c.lesser-end.ensures c.lesser-start.ensures; ref_ptr_value = part_begins a.from a.to a.words _ _ c.lesser-end.ensures c.lesser-start.ensures }
+returns c = let a = c.args in record { result_value = part_shown a.from a.to a.words.now _ _ c.min-end.ensures c.min-start.ensures; ref_ptr_value = part_begins a.from a.to a.words _ _ c.min-end.ensures c.min-start.ensures }

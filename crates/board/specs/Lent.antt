@@ -1,0 +1,8 @@
+-- What a step is lent, as its plan sees it: a plan reads the words that are given and the data, and asks of the output slice no more than its length.
+use Rattle.std.specs.Prelude.{List, ℕ}
+use Rattle.board.specs.Given.{Given}
+
+pub record LentWords : Type 0 where
+  pub given : Given
+  pub «data» : List ℕ
+  pub output_length : ℕ

@@ -1,9 +1,0 @@
--- Not routine: the code compares the word; ACC is negative where the word is 2^31 or more, which is what the definition's signed number says.
-use Rattle.std.proofs.Common.{arith}
-use Rattle.pages.specs.BranchesPages.{BLEZ}
-use Rattle.branches.specs.Signs.{is_not_positive}
-use Rattle.branches.proofs.blez.Goals as goal
-
-pub returns : goal.returns
-unfolding BLEZ
-returns c = rw (c.branch-m.ensures, ← is_not_positive c.args.m.acc (omega arith))

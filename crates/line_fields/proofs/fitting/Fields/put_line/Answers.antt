@@ -1,0 +1,23 @@
+-- Not routine: room for the whole is room for each part where the one before it ended, and the parts put down in turn make the whole.
+use Rattle.std.proofs.Common.{◌≡◌, ap}
+use Rattle.line_fields.specs.Facts.{Fields}
+use Rattle.line_fields.proofs.Cells.{cells_room, sent_room, newline_room, whole_put}
+use Rattle.line_fields.proofs.fitting.Fields.put_line.Goals as goal
+
+pub put_cells-cells-requires : goal.put_cells-cells-requires
+put_cells-cells-requires c = cells_room _ _ _ _ _ _ c.requires
+
+pub put_words-sent-requires : goal.put_words-sent-requires
+put_words-sent-requires c =
+    let e : c.self.inside.words.now ≡ c.args.self.now.words = ap (λ (f : Fields). f.words) c.self.view_is in
+    rw e (sent_room _ _ _ _ _ _ c.requires c.put_cells-cells.ensures)
+
+pub put_byte-requires : goal.put_byte-requires
+put_byte-requires c =
+    let e : c.self.inside.words.now ≡ c.args.self.now.words = ap (λ (f : Fields). f.words) c.self.view_is in
+    newline_room _ _ _ _ _ _ c.requires c.put_cells-cells.ensures (rw e at c.put_words-sent.ensures)
+
+pub returns : goal.returns
+returns c =
+    let e : c.self.inside.words.now ≡ c.args.self.now.words = ap (λ (f : Fields). f.words) c.self.view_is in
+    whole_put _ _ _ _ _ _ c.requires c.put_cells-cells.ensures (rw e at c.put_words-sent.ensures) c.put_byte.ensures
