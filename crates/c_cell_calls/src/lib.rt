@@ -1,39 +1,23 @@
 // What a call does with the cells that it was lent: they are refused, reset, or hold a machine again, with the numbers that come back.
 #![tactic(auto)]
 
-ghost use Rattle.std.specs.Prelude.{◌≡◌};
-ghost use Rattle.answers.specs.Numbers.{number_of, is_done};
+ghost use Rattle.std.specs.Prelude.{◌≡◌, Err};
+ghost use Rattle.answers.specs.Numbers.{number_of};
 ghost use Rattle.machine.specs.Reset.{reset_machine};
-ghost use Rattle.c_cells.specs.Checks.{length_answer, cells_answer, cells_after};
+ghost use Rattle.c_cells.specs.Checks.{length_answer, cells_after};
 
-use answers::{Answer, number};
-use c_cells::checking::{cells_answer, length_answer};
+use answers::{Answer, Refusal, number};
+use c_cells::checking::length_answer;
 use c_cells::storing::put_cells;
 use machine::Machine;
 
-// Whether the cells pass the checks.
-pub fn cells_pass(cells: &[u32]) -> bool
-    ensures { result ≡ is_done (cells_answer cells.now) }
-{
-    let checked = cells_answer(cells);
-    checked.is_ok()
-}
-
-// What cells that do not pass are answered by.
-pub fn cells_number(cells: &[u32]) -> u32
-    ensures { result ≡ number_of (cells_answer cells.now) }
-{
-    let checked = cells_answer(cells);
-    u32::from(number(checked))
-}
-
-// The same of a run, which has done no step.
-pub fn refused_run(cells: &[u32], steps: &mut u32) -> u32
-    ensures answered { result ≡ number_of (cells_answer cells.now) }
+// What a run of refused cells is answered by: it has done no step.
+pub fn refused_run(refusal: Refusal, steps: &mut u32) -> u32
+    ensures answered { result ≡ number_of (Err refusal) }
     ensures none { steps.new ≡ 0 }
 {
     *steps = 0;
-    cells_number(cells)
+    u32::from(u8::from(refusal))
 }
 
 // The cells after reset, whatever they held.
@@ -60,6 +44,6 @@ pub fn put_run(cells: &mut [u32], m: Machine, answer: Answer, done: u16, steps: 
     ensures stored { cells.new ≡ cells_after cells.old m }
     ensures counted { steps.new ≡ done }
 {
-    *steps = done as u32;
+    *steps = u32::from(done);
     put_step(cells, m, answer)
 }

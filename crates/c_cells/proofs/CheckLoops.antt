@@ -1,25 +1,33 @@
--- What the loop of within_limits keeps: how it goes on and ends.
-use mathlib.Core.Path.{◌≡◌}
-use mathlib.Core.Bool.{Bool, ◌&&◌}
+-- What the chain over the cells and their limits gathers.
+use mathlib.Core.Path.{◌≡◌, refl, ◌∙◌}
+use mathlib.Core.Bool.{Bool, true, ◌&&◌}
 use mathlib.Core.List.{List}
-use Prim.Native.Nat.{ℕ, ◌+◌, ◌≤◌, ◌<◌}
+use Prim.Native.Nat.{ℕ, zero, suc, ◌≤◌}
 use native.Mathlib.Omega.{arith}
-use native.Mathlib.Numerals.{add-one}
 use lib.Dec.{leb}
-use lib.ListN.{get_or}
+use lib.ListN.{length, take}
+use lib.Seq.{take-suc, take-length}
+use Rattle.std.proofs.lemmas.List.Sums.{fold-append}
+use Rattle.std.proofs.lemmas.Slice.Zip.{length-zip, get_or-zip}
+use Rattle.std.specs.List.{fold, zip}
 use Rattle.machine.specs.Table.{cell_count}
 use Rattle.c_cells.specs.Checks.{limits, within_limits}
 
--- the cells before i were looked at
-pub record Kept (cells : List ℕ) (kept : Bool) (i : ℕ) : Type 0 where
-  pub reached : i ≤ cell_count
-  pub so_far : kept ≡ within_limits i cells
+-- one pair more
+abbrev pub also_kept : Bool → ℕ × ℕ → Bool
+also_kept kept p = kept && leb p.0 p.1
 
-pub kept_more : {cells : List ℕ} {kept : Bool} {i : ℕ} → Kept cells kept i → i < cell_count → Kept cells (kept && leb (get_or cells i 0) (get_or limits i 0)) (i + 1)
-unfolding within_limits
-kept_more k h = record { reached = omega arith; so_far = rw (add-one, k.so_far) }
+gathered_first : (cells : List ℕ) → length cells ≡ cell_count → (n : ℕ) → n ≤ cell_count → fold also_kept true (take n (zip cells limits)) ≡ within_limits n cells
+unfolding limits within_limits
+gathered_first cells h zero most = refl
+gathered_first cells h (suc n) most =
+    let pairs : length (zip cells limits) ≡ cell_count = length-zip cells limits ∙ rw h refl in
+    rw (take-suc (zip cells limits) n (0, 0) (omega (arith, pairs)), fold-append also_kept true, gathered_first cells h n (omega arith), get_or-zip cells limits n (0, 0) (omega (arith, h)) (omega arith))
 
-pub kept_all : {cells : List ℕ} {kept : Bool} {i : ℕ} → Kept cells kept i → cell_count ≤ i → kept ≡ within_limits cell_count cells
-kept_all {cells} {kept} {i} k h =
-    let e : i ≡ cell_count = omega (arith, k.reached) in
-    rw e at k.so_far
+-- all of them
+pub gathered : (cells : List ℕ) → length cells ≡ cell_count → fold also_kept true (zip cells limits) ≡ within_limits cell_count cells
+unfolding limits
+gathered cells h =
+    let pairs : length (zip cells limits) ≡ cell_count = length-zip cells limits ∙ rw h refl in
+    let all : take cell_count (zip cells limits) ≡ zip cells limits = rw pairs at (take-length (zip cells limits)) in
+    rw all at (gathered_first cells h cell_count (omega arith))

@@ -1,13 +1,14 @@
 -- What the checks of a slice of cells say of it.
-use Rattle.std.specs.Prelude.{◌≡◌, refl, Bool, true, false, cond, List, ℕ, eqb, length}
+use Rattle.std.specs.Prelude.{Result, Ok, Err, is_ok, ◌≡◌, refl, Bool, true, false, cond, List, ℕ, eqb, length}
 use Rattle.std.proofs.lemmas.Bool.{false≢true}
-use Rattle.std.proofs.Common.{eqb-true, eq-eqb}
+use Rattle.std.proofs.Common.{sym, ap, eqb-true, eq-eqb}
 use Rattle.machine.specs.declared.Machine.{Machine}
 use Rattle.machine.specs.Table.{cell_count}
-use Rattle.answers.specs.Answers.{Done, CellOutOfRange, SlicesUnfit}
+use Rattle.answers.specs.declared.Refusal.{Refusal}
+use Rattle.answers.specs.Answers.{Answer, Done, CellOutOfRange, SlicesUnfit}
 use Rattle.answers.specs.Numbers.{is_done}
 use Rattle.c_cells.specs.Cells.{cells_of, machine_from, machine_of}
-use Rattle.c_cells.specs.Checks.{within_limits, cells_answer, cells_after}
+use Rattle.c_cells.specs.Checks.{within_limits, cells_answer, if_done, checked_machine, cells_after}
 
 -- cells that pass both checks
 pub record CellsKept (cells : List ℕ) : Type 0 where
@@ -36,3 +37,17 @@ machine_of_all cells h = simp (eq-eqb _ _ h)
 pub kept_after : (cells : List ℕ) (m : Machine) → is_done (cells_answer cells) ≡ true → cells_after cells m ≡ cells_of m
 unfolding cells_after
 kept_after cells m h = simp (eq-eqb _ _ (cells_kept cells h).count)
+
+-- ---- what a machine, or a refusal, of cells tells of them
+
+machine_in : Machine → Result Machine Refusal → Machine
+machine_in d (Ok m) = m
+machine_in d (Err refusal) = d
+
+pub machine_passed : (cells : List ℕ) {m : Machine} → Ok m ≡ checked_machine cells → (is_done (cells_answer cells) ≡ true) × (m ≡ machine_of cells)
+unfolding checked_machine machine_in
+machine_passed cells {m} h = by (cells_answer cells) refl h
+  where
+    by : (a : Answer) → cells_answer cells ≡ a → Ok m ≡ if_done a (machine_of cells) → (is_done (cells_answer cells) ≡ true) × (m ≡ machine_of cells)
+    by (Ok tt) e h = (ap is_done e, ap (machine_in m) h)
+    by (Err refusal) e h = absurd (false≢true (sym (ap is_ok h)))

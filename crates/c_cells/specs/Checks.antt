@@ -1,10 +1,11 @@
 -- The checks of a slice of cells: its length (2), then the range of each cell (1).
-use Rattle.std.specs.Prelude.{Bool, true, cond, ◌&&◌, List, [], ◌∷◌, ◌++◌, ℕ, zero, suc, leb, eqb, length, get_or, replicate}
+use Rattle.std.specs.Prelude.{Result, Ok, Err, Bool, true, cond, ◌&&◌, List, [], ◌∷◌, ◌++◌, ℕ, zero, suc, leb, eqb, length, get_or, replicate}
 use Rattle.machine.specs.declared.Machine.{Machine}
 use Rattle.machine.specs.Table.{Cell, cells, cell_count}
+use Rattle.answers.specs.declared.Refusal.{Refusal}
 use Rattle.answers.specs.Answers.{Answer}
 use Rattle.answers.specs.Answers.{Done, CellOutOfRange, SlicesUnfit}
-use Rattle.c_cells.specs.Cells.{cells_of}
+use Rattle.c_cells.specs.Cells.{cells_of, machine_of}
 
 -- the largest number that each may hold, in the same order
 abbrev pub limits_of : List Cell → List ℕ
@@ -29,6 +30,15 @@ cells_answer numbers =
     (cond (within_limits cell_count numbers) Done
     CellOutOfRange)
     SlicesUnfit
+
+-- a machine where the answer is done, and else the refusal
+abbrev pub if_done : Answer → Machine → Result Machine Refusal
+if_done (Ok _) m = Ok m
+if_done (Err refusal) m = Err refusal
+
+-- the machine of cells that pass the checks
+unfoldable pub checked_machine : List ℕ → Result Machine Refusal
+checked_machine numbers = if_done (cells_answer numbers) (machine_of numbers)
 
 -- the slice after a machine's cells were written to it
 unfoldable pub cells_after : List ℕ → Machine → List ℕ

@@ -49,20 +49,14 @@ const LIMITS: [u32; CELLS] = [
     Machine::CURSOR_MAX as u32,
 ];
 
-// Each of the cells is at most its limit.
-fn within_limits(cells: &[u32]) -> bool
-    requires { length cells.now ≡ cell_count }
+// Each of the cells is at most its limit. Gathered by &, and not by `all`, which makes a branch for each cell: 90 instructions in place of 83.
+fn within_limits(cells: &[u32; CELLS]) -> bool
     ensures { result ≡ within_limits cell_count cells.now }
 {
-    // once, and not in every turn of the loop, which would build the table anew
-    let limits = LIMITS;
-    let mut kept = true;
-    let mut i: usize = 0;
-    while i < CELLS {
-        kept = kept & (cells[i] <= limits[i]);
-        i += 1;
-    }
-    kept
+    cells
+        .iter()
+        .zip(&LIMITS)
+        .fold(true, |kept, (cell, limit)| kept & (cell <= limit))
 }
 
 // Whether a slice has as many cells as there are: 0 or 2.
@@ -71,9 +65,10 @@ pub fn length_answer(cells: &[u32]) -> Answer
     ensures { result ≡ length_answer cells.now }
 {
     if cells.len() == CELLS {
-        return Ok(());
+        Ok(())
+    } else {
+        Err(Refusal::SlicesUnfit)
     }
-    Err(Refusal::SlicesUnfit)
 }
 
 // What a slice of cells is answered by: 2 for its length, then 1.
@@ -81,11 +76,12 @@ pub fn length_answer(cells: &[u32]) -> Answer
 pub fn cells_answer(cells: &[u32]) -> Answer
     ensures { result ≡ cells_answer cells.now }
 {
-    if cells.len() != CELLS {
+    let Some(cells) = cells.as_array() else {
         return Err(Refusal::SlicesUnfit);
+    };
+    if within_limits(cells) {
+        Ok(())
+    } else {
+        Err(Refusal::CellOutOfRange)
     }
-    if !within_limits(cells) {
-        return Err(Refusal::CellOutOfRange);
-    }
-    Ok(())
 }

@@ -20,6 +20,7 @@ fn file_bytes(program: &[u16], data: &[u16], input: &[u16]) -> usize
 }
 
 // A run file, and how many bytes it has.
+#[tactic(auto, using(crate::specs::CallLaws::none_written, crate::specs::CallLaws::counts_written, crate::specs::CallLaws::bytes_written))]
 pub fn write_counted(
     program: &[u16],
     data: &[u16],
@@ -33,10 +34,9 @@ pub fn write_counted(
     ensures file_count { count.new ≡ written_count (contents program.now «data».now input.now budget) bytes.old }
 {
     let answer = write_file(program, data, input, budget, bytes);
-    if answer.is_err() {
-        *count = 0;
-        return u32::from(number(answer));
-    }
-    *count = file_bytes(program, data, input);
+    *count = match answer {
+        Ok(()) => file_bytes(program, data, input),
+        Err(_) => 0,
+    };
     u32::from(number(answer))
 }

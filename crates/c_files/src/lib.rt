@@ -11,13 +11,14 @@ use runfile::reading::{head_of, read_answer};
 use runfile_setting_up::set_up;
 
 // What a run file asks for: the length of its input slice, and its budget.
+#[tactic(auto, unfolding(runfile::specs::Files::head_of))]
 pub fn read_counts(bytes: &[u8], input_count: &mut usize, budget: &mut u16) -> u32
     ensures answered { result ≡ number_of (read_answer bytes.now) }
     ensures input_words { input_count.new ≡ length (read_contents bytes.now).input }
     ensures steps_asked { budget.new ≡ (read_contents bytes.now).budget }
 {
     let head = head_of(bytes);
-    *input_count = head.input_count as usize;
+    *input_count = usize::from(head.input_count);
     *budget = head.budget;
     u32::from(number(read_answer(bytes)))
 }

@@ -9,6 +9,7 @@ use steps::Outside;
 // How many numbers the results are: CROWMITTEN_RESULTS of the header.
 pub const RESULTS: usize = 3;
 
+#[tactic(auto, unfolding(crate::specs::Results::results_fit))]
 pub fn results_fit(results: &[u32]) -> bool
     ensures { result ≡ results_fit results.now }
 {
@@ -16,12 +17,15 @@ pub fn results_fit(results: &[u32]) -> bool
 }
 
 // Into a slice of their number; any other is left as it is.
+#[tactic(auto, unfolding(crate::specs::Results::results_after, crate::specs::Results::results_fit))]
 pub fn put_results(results: &mut [u32], steps: u16, outside: Outside)
     ensures { results.new ≡ results_after results.old steps outside }
 {
-    if results.len() == RESULTS {
-        results[0] = steps as u32;
-        results[1] = outside.reads as u32;
-        results[2] = outside.writes as u32;
+    if results_fit(results) {
+        results.copy_from_slice(&[
+            u32::from(steps),
+            u32::from(outside.reads),
+            u32::from(outside.writes),
+        ]);
     }
 }

@@ -1,7 +1,8 @@
 -- How the calls of each function make what its contract says.
-use Rattle.std.specs.Prelude.{◌≡◌, true, false, List, ℕ, ◌+◌, ◌-◌, ◌≤◌, length}
+use Rattle.std.specs.Prelude.{Result, Ok, Err, ◌≡◌, true, false, List, ℕ, ◌+◌, ◌-◌, ◌≤◌, length}
 use Rattle.std.proofs.Common.{ap}
 use Rattle.machine.specs.declared.Machine.{Machine}
+use Rattle.answers.specs.declared.Refusal.{Refusal}
 use Rattle.answers.specs.Answers.{Answer}
 use Rattle.answers.specs.Numbers.{number_of, is_done}
 use Rattle.board.specs.Regions.{in_rom, program_present}
@@ -10,8 +11,24 @@ use Rattle.board.specs.Windows.{window_answer, window_shown}
 use Rattle.board.specs.WindowLaws.{window_done}
 use Rattle.c_cells.specs.Cells.{machine_of}
 use Rattle.c_cells.specs.Checks.{cells_answer}
-use Rattle.c_window.specs.declared.window.Place.{Place}
-use Rattle.c_window.specs.Shown.{place_of, placed, window_called}
+use Rattle.c_window.specs.declared.window.Memory.{Memory}
+use Rattle.c_window.specs.declared.window.Memory.TheVariants.{Program, Data}
+use Rattle.c_window.specs.declared.window.Place
+use Rattle.c_window.specs.Shown.{Place, place_of, Placed, placed, window_called}
+
+-- the number of a memory
+abbrev pub memory_number : Memory → ℕ
+memory_number Program = 1
+memory_number Data = 2
+
+-- what the call hands out of a place, or of why there is none
+abbrev pub placed_by : Result Rattle.c_window.specs.declared.window.Place.Place Refusal → Placed
+placed_by (Ok p) = placed 0 (memory_number p.memory) p.from p.count
+placed_by (Err refusal) = placed (number_of (Err refusal)) 0 0 0
+
+-- what it hands out of a machine
+abbrev pub window_placed : Machine → ℕ → List ℕ → List ℕ → Placed
+window_placed m address rom data_words = record { answer = number_of (window_answer m address rom data_words); place = place_of m address rom data_words }
 
 module _ (cells : List ℕ) where
   -- cells that are refused: their answer's number, and nothing else

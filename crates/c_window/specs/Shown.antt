@@ -6,7 +6,12 @@ use Rattle.board.specs.Regions.{in_rom}
 use Rattle.board.specs.Windows.{window_answer, window_shown}
 use Rattle.c_cells.specs.Cells.{machine_of}
 use Rattle.c_cells.specs.Checks.{cells_answer}
-use Rattle.c_window.specs.declared.window.Place.{Place}
+
+-- the place of a window, in numbers
+pub record Place : Type 0 where
+  pub memory : ℕ
+  pub from : ℕ
+  pub count : ℕ
 
 -- where a window stands: in no memory on a refusal
 abbrev pub no_place : Place

@@ -12,8 +12,7 @@ use Rattle.board.specs.RegionLaws.{rom_below, program_b0}
 use Rattle.board.specs.SliceLaws.{memories_fit_lem}
 use Rattle.board.specs.Windows.{window_of, window_answer, window_shown}
 use Rattle.board.specs.WindowLaws.{window_done, rom_window_length, b0_window_length}
-use Rattle.c_window.specs.declared.window.Place.{Place}
-use Rattle.c_window.specs.Shown.{place_of}
+use Rattle.c_window.specs.Shown.{Place, place_of}
 
 -- the words at a place
 unfoldable pub words_in : Place → List ℕ → List ℕ → List ℕ

@@ -1,55 +1,75 @@
 // The fetch window.
-ghost use Rattle.std.specs.Prelude.{◌≡◌, length};
-ghost use Rattle.board.specs.Windows.{window_shown};
-ghost use Rattle.c_window.specs.Shown.{place_of, placed, window_called};
+ghost use Rattle.std.specs.Prelude.{◌≡◌};
+ghost use Rattle.c_window.specs.Shown.{placed, window_called};
+ghost use Rattle.c_window.specs.CallLaws.{memory_number, placed_by, window_placed};
 
-use answers::number;
-use c_cells::checking::cells_answer;
-use c_cells::reading::machine_of;
+use answers::Refusal;
+use c_cells::reading::checked_machine;
 use machine::Machine;
 use regions::in_rom;
 use windows::{window, window_answer};
 
-// Where a window stands: in the program memory (1), in the data memory (2) or nowhere (0).
-#[derive(Clone, Copy)]
-pub struct Place {
-    pub memory: u32,
-    pub from: usize,
-    pub count: usize,
+// The two lent memories.
+#[derive(Clone, Copy, Debug, PartialEq, Eq)]
+enum Memory {
+    Program,
+    Data,
 }
 
-fn window_length<'a>(m: Machine, address: u16, rom: &'a [u16], data: &'a [u16]) -> usize
-    ensures { result ≡ length (window_shown m address rom.now «data».now) }
-{
-    let shown = window(m, address, rom, data);
-    shown.len()
-}
+// The number of a memory for programs in C, to whom 0 is no memory.
+impl From<Memory> for u32 {
+    ghost from_gives = { λ memory n. n ≡ memory_number memory };
 
-// Where the window of an address stands.
-fn place_of<'a>(m: Machine, address: u16, rom: &'a [u16], data: &'a [u16]) -> Place
-    ensures { result ≡ place_of m address rom.now «data».now }
-{
-    if window_answer(m, address, rom, data).is_err() {
-        return Place {
-            memory: 0,
-            from: 0,
-            count: 0,
-        };
+    fn from(memory: Memory) -> u32 {
+        match memory {
+            Memory::Program => 1,
+            Memory::Data => 2,
+        }
     }
-    let from = address as usize;
-    let count = window_length(m, address, rom, data);
+}
+
+// Where a window stands.
+#[derive(Clone, Copy, Debug, PartialEq, Eq)]
+struct Place {
+    memory: Memory,
+    from: usize,
+    count: usize,
+}
+
+// Where the window of an address stands, or why none is shown.
+#[tactic(auto, unfolding(crate::specs::Shown::place_of), using(crate::specs::CallLaws::past_rom))]
+fn place_of<'a>(m: Machine, address: u16, rom: &'a [u16], data: &'a [u16]) -> Result<Place, Refusal>
+    ensures { placed_by result ≡ window_placed m address rom.now «data».now }
+{
+    window_answer(m, address, rom, data)?;
+    let from = usize::from(address);
+    let count = window(m, address, rom, data).len();
     if in_rom(address) {
-        return Place {
-            memory: 1,
+        Ok(Place {
+            memory: Memory::Program,
             from,
             count,
-        };
+        })
+    } else {
+        Ok(Place {
+            memory: Memory::Data,
+            from: from - 0xFF00 + 0x200,
+            count,
+        })
     }
-    Place {
-        memory: 2,
-        from: from - 0xFF00 + 0x200,
-        count,
-    }
+}
+
+// The same of a machine's cells.
+#[tactic(auto, unfolding(crate::specs::Shown::window_called, c_cells::specs::Checks::checked_machine))]
+fn place_called<'a>(
+    cells: &[u32],
+    address: u16,
+    rom: &'a [u16],
+    data: &'a [u16],
+) -> Result<Place, Refusal>
+    ensures { placed_by result ≡ window_called cells.now address rom.now «data».now }
+{
+    place_of(checked_machine(cells)?, address, rom, data)
 }
 
 // The place of the window of an address, in three numbers.
@@ -64,18 +84,18 @@ pub fn place_window<'a>(
 ) -> u32
     ensures { placed result memory.new from.new count.new ≡ window_called cells.now address rom.now «data».now }
 {
-    let checked = cells_answer(cells);
-    if checked.is_err() {
-        *memory = 0;
-        *from = 0;
-        *count = 0;
-        return u32::from(number(checked));
+    match place_called(cells, address, rom, data) {
+        Ok(place) => {
+            *memory = u32::from(place.memory);
+            *from = place.from;
+            *count = place.count;
+            0
+        }
+        Err(refusal) => {
+            *memory = 0;
+            *from = 0;
+            *count = 0;
+            u32::from(u8::from(refusal))
+        }
     }
-    let m = machine_of(cells);
-    let answer = window_answer(m, address, rom, data);
-    let place = place_of(m, address, rom, data);
-    *memory = place.memory;
-    *from = place.from;
-    *count = place.count;
-    u32::from(number(answer))
 }

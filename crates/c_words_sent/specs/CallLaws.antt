@@ -1,12 +1,18 @@
 -- How the calls of a function make what its contract says.
-use Rattle.std.specs.Prelude.{◌≡◌, true, false, List, ℕ, length}
+use Rattle.std.specs.Prelude.{Result, Ok, Err, ◌≡◌, true, false, List, ℕ, length}
 use Rattle.machine.specs.declared.Machine.{Machine}
+use Rattle.answers.specs.declared.Refusal.{Refusal}
 use Rattle.answers.specs.Answers.{Answer}
 use Rattle.answers.specs.Numbers.{number_of, is_done}
 use Rattle.board.specs.Windows.{words_sent_answer, words_sent}
 use Rattle.c_cells.specs.Cells.{machine_of}
 use Rattle.c_cells.specs.Checks.{cells_answer}
-use Rattle.c_words_sent.specs.Sent.{counted, sent_called}
+use Rattle.c_words_sent.specs.Sent.{Counted, counted, sent_called}
+
+-- what the call hands out of a count, or of why there is none
+abbrev pub counted_by : Result ℕ Refusal → Counted
+counted_by (Ok count) = counted 0 count
+counted_by (Err refusal) = counted (number_of (Err refusal)) 0
 
 module _ (cells : List ℕ) where
   -- cells that are refused: their answer's number, and nothing else

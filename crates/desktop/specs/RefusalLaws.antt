@@ -1,8 +1,9 @@
 -- "A refusal returns the state given": a refused step changes no cell and no word, and neither does a run of no steps.
-use Rattle.std.specs.Prelude.{◌≡◌, Bool, List, ℕ, zero, suc, eqb}
+use Rattle.std.specs.Prelude.{Ok, Err, ◌≡◌, Bool, List, ℕ, zero, suc, eqb}
 use Rattle.std.proofs.Math.Path.{refl}
 use Rattle.std.proofs.Math.Bool.{true, false}
-use Rattle.std.proofs.Common.{arith}
+use Rattle.std.proofs.Common.{sym, arith}
+use Rattle.std.proofs.lemmas.Bool.{false≢true}
 use Rattle.answers.specs.Answers.{Answer}
 use Rattle.answers.specs.Numbers.{number_of, is_done}
 use Rattle.steps.specs.World.{World}
@@ -12,6 +13,11 @@ use Rattle.c_cells.specs.Checks.{cells_answer}
 use Rattle.c_cell_laws.specs.CellLaws.{cells_machine}
 use Rattle.desktop.specs.Calls.{called, world_of, world_called, step_called, run_called}
 use Rattle.board.specs.Given.{Given}
+
+-- an answer with another number than 0 is a refusal
+not_done : (a : Answer) → eqb (number_of a) 0 ≡ false → is_done a ≡ false
+not_done (Ok tt) h = absurd (false≢true (sym h))
+not_done (Err refusal) h = refl
 
 -- a run of no steps leaves the world that it got
 run_of_none : (g : Given) (budget : ℕ) (w : World) → (run_of g budget w).steps ≡ 0 → (run_of g budget w).world ≡ w
@@ -34,7 +40,7 @@ module _ (g : Given) (cells d o : List ℕ) where
     where
       by : (t : Bool) → is_done (cells_answer cells) ≡ t → step_called g cells d o ≡ called (step_called g cells d o).answer cells d o
       by true h =
-          simp h (same_called (step_of g (world_of cells d o)).answer (step_of g (world_of cells d o)).world h (refused_unchanged g (world_of cells d o) (simp h at r)))
+          simp h (same_called (step_of g (world_of cells d o)).answer (step_of g (world_of cells d o)).world h (refused_unchanged g (world_of cells d o) (not_done (step_of g (world_of cells d o)).answer (simp h at r))))
       by false h = simp h
 
   pub run_no_steps : (budget : ℕ) → (run_called g budget cells d o).steps ≡ 0

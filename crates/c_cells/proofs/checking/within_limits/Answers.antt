@@ -1,17 +1,14 @@
--- Not routine: what the loop keeps is that kept says whether the first i cells are within their limits.
-use Rattle.c_cells.proofs.CheckLoops.{kept_more, kept_all}
-use Rattle.c_cells.specs.Checks.{limits, within_limits}
-use mathlib.Core.Path.{refl}
-use native.Mathlib.Omega.{arith}
+-- Not routine: the pairs of the chain are the cells with their limits, and what is gathered of them is what the definition asks.
+use Rattle.std.proofs.Common.{◌∙◌, rules, tests}
+use Rattle.std.proofs.lemmas.Iterator.{YieldsList-from_slice, YieldsList-from_zip}
+use Rattle.std.proofs.lemmas.Iterator.Consumers.{fold_from_yields_List}
+use Rattle.c_cells.proofs.CheckLoops.{also_kept, gathered}
+use Rattle.c_cells.specs.Checks.{limits}
 use Rattle.c_cells.proofs.checking.within_limits.Goals as goal
 
-pub loop-i-init : goal.loop-i-init
-unfolding within_limits
-loop-i-init c = record { reached = omega arith; so_far = refl }
-
-pub loop-i-preserved : goal.loop-i-preserved
-unfolding limits
-loop-i-preserved c = kept_more c.loop-i.invariant c.loop-i-test.true
-
 pub returns : goal.returns
-returns c = kept_all c.loop-i.invariant c.loop-i-test.false
+unfolding limits
+returns c = fold_from_yields_List _ also_kept _ _ c.fold.ensures.ran
+    (YieldsList-from_zip (YieldsList-from_slice c.args.cells.now cc) (YieldsList-from_slice _ cc))
+    (λ a x b q k. search (rules, tests))
+    ∙ gathered c.args.cells.now c.told-cells

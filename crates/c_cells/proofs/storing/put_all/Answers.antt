@@ -8,13 +8,13 @@ pub returns : goal.returns
 unfolding cells_of
 returns c = parts_put _ _ _ _ _ refl refl refl
     c.requires
-    c.first_cells-first.ensures
-    c.register_cells-registers.ensures
-    c.pointer_cells-pointers.ensures
-    c.stack_cells-stack.ensures
-    c.last_cells-last.ensures
+    c.first_cells.ensures
+    (refl, c.put_eight.ensures.1)
+    c.pointer_cells.ensures
+    (refl, c.put_eight-2.ensures.1)
+    c.last_cells.ensures
     c.put_numbers.ensures
-    c.put_words.ensures
+    c.put_eight.ensures.0
     c.put_numbers-2.ensures
-    c.put_words-2.ensures
+    c.put_eight-2.ensures.0
     c.put_numbers-3.ensures

@@ -1,19 +1,11 @@
--- Not routine: what the loop keeps is that the first k numbers of the run are stored; so the slice has its old length, and at + k is in it.
-use Rattle.c_cells.proofs.StoreLoops.{put_none, put_length, put_more, put_whole}
-use native.Mathlib.Omega.{arith}
+-- Not routine: a run of stores is what a copy into the part of the slice leaves.
+use Rattle.std.proofs.Common.{refl, sym, ◌∙◌, arith}
+use Rattle.std.proofs.lemmas.List.Edits.{sets-eq}
+use Rattle.std.proofs.lemmas.Slice.{put_mid-paste}
+use Rattle.std.proofs.Math.Seq.{take-length}
 use Rattle.c_cells.proofs.storing.put_numbers.Goals as goal
 
-pub loop-k-init : goal.loop-k-init
-loop-k-init c = put_none _ _ _
-
-pub bounds-cells-at : goal.bounds-cells-at
-bounds-cells-at c = omega (arith, put_length c.loop-k.invariant)
-
-pub loop-k-preserved : goal.loop-k-preserved
-loop-k-preserved c = put_more c.loop-k.invariant c.loop-k-test.true
-
-pub shape_of-cells : goal.shape_of-cells
-shape_of-cells c = put_length c.loop-k.invariant
-
 pub returns : goal.returns
-returns c = put_whole c.loop-k.invariant c.loop-k-test.false
+returns c =
+    put_mid-paste c.args.at _ c.args.cells.now _ c.args.numbers.now _ c.copy_from_slice.ensures.after (omega arith) refl
+    ∙ rw take-length (sym (sets-eq c.args.numbers.now c.args.cells.now c.args.at c.requires))
