@@ -1,4 +1,5 @@
-// Numbers as text, put down in lent bytes.
+// Numbers as text, put down in lent bytes. Not by `write!`: std's `fmt::Write` promises the text where it answers Ok and does not say when it does, and
+// `fit_line` promises its bytes for every line that fits.
 ghost use Rattle.std.specs.Prelude.{[], ◌∷◌};
 ghost use Rattle.line_digits.specs.Digits.{hexadecimal, decimal};
 ghost use Rattle.line_fields.specs.Facts.{Put, Room};

@@ -7,6 +7,7 @@ ghost use Rattle.line_fields.specs.Facts.{Put, Room, word_fields};
 use crate::numbers::{put_byte, put_decimal, put_four};
 
 // A space and a number in decimal.
+#[tactic(auto, using(crate::specs::PlacingLaws::put_then))]
 pub fn put_decimal_field(bytes: &mut [u8], at: usize, n: u32) -> usize
     requires { Room bytes.old at (space ∷ decimal n) }
     ensures { Put bytes.old at (space ∷ decimal n) bytes.new result }
@@ -16,6 +17,7 @@ pub fn put_decimal_field(bytes: &mut [u8], at: usize, n: u32) -> usize
 }
 
 // A space and four hexadecimal digits.
+#[tactic(auto, using(crate::specs::PlacingLaws::put_then))]
 pub fn put_word_field(bytes: &mut [u8], at: usize, n: u32) -> usize
     requires { Room bytes.old at (space ∷ hexadecimal 4 n) }
     ensures { Put bytes.old at (space ∷ hexadecimal 4 n) bytes.new result }
