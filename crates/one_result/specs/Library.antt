@@ -4,7 +4,6 @@ use Rattle.c_cells.proofs.checking.cells_answer.Reads as CellsAnswer
 use Rattle.c_cells.proofs.reading.machine_of.Reads as MachineOf
 use Rattle.c_cells.proofs.reading.checked_machine.Reads as CheckedMachine
 use Rattle.c_cells.proofs.storing.put_cells.Reads as PutCells
-use Rattle.answers.proofs.number_of.Reads as NumberOf
 use Rattle.c_cell_calls.proofs.refused_run.Reads as RefusedRun
 use Rattle.c_cell_calls.proofs.reset_cells.Reads as ResetCells
 use Rattle.c_cell_calls.proofs.put_step.Reads as PutStep
@@ -53,9 +52,6 @@ checked_machine κs a r r' e e' p q = same p q
 
 pub put_cells : OneOutcome PutCells.Post (λ r e. e.0.now)
 put_cells κs a r r' e e' p q = same p q
-
-pub number_of : OneResult NumberOf.Post
-number_of κs a r r' e e' p q = same p q
 
 pub refused_run : OneOutcome RefusedRun.Post (λ r e. pair r e.1.0.now)
 refused_run κs a r r' e e' p q = same_pair (same p.0 q.0) (same p.1 q.1)

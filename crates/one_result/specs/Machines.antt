@@ -9,7 +9,6 @@ use Rattle.machine.proofs.Machine.in_range.Reads as InRange
 use Rattle.machine.proofs.push_on.Reads as PushOn
 use Rattle.machine.proofs.pop_on.Reads as PopOn
 use Rattle.answers.proofs.number.Reads as Number
-use Rattle.answers.proofs.is_done.Reads as IsDone
 use Rattle.passes.proofs.with_sum.Reads as WithSum
 use Rattle.passes.proofs.add_to_acc.Reads as AddToAcc
 use Rattle.passes.proofs.subtract_from_acc.Reads as SubtractFromAcc
@@ -25,6 +24,11 @@ use Rattle.addressing.proofs.with_register.Reads as WithRegister
 use Rattle.addressing.proofs.modify.Reads as Modify
 use Rattle.addressing.proofs.after_operand.Reads as AfterOperand
 use Rattle.addressing.proofs.address_of.Reads as AddressOf
+use Rattle.board.proofs.Lent.new.Reads as LentNew
+use Rattle.board.proofs.Lent.rom.Reads as LentRom
+use Rattle.board.proofs.Lent.data.Reads as LentData
+use Rattle.board.proofs.Lent.input.Reads as LentInput
+use Rattle.board.proofs.Lent.output_length.Reads as LentOutputLength
 use Rattle.regions.proofs.region_present.Reads as RegionPresent
 use Rattle.regions.proofs.region_on_chip.Reads as RegionOnChip
 use Rattle.regions.proofs.data_region.Reads as DataRegion
@@ -79,9 +83,6 @@ pop_on κs a r r' e e' p q = same p q
 pub number : OneResult Number.Post
 number κs a r r' e e' p q = same p q
 
-pub is_done : OneResult IsDone.Post
-is_done κs a r r' e e' p q = same p q
-
 pub with_sum : OneResult WithSum.Post
 with_sum κs a r r' e e' p q = same p q
 
@@ -126,6 +127,22 @@ after_operand κs a r r' e e' p q = same p q
 
 pub address_of : OneResult AddressOf.Post
 address_of κs a r r' e e' p q = same p q
+
+pub lent_new : OneResult LentNew.Post
+lent_new κs a r r' e e' p q = same p q
+
+-- of the slices that it gives back the words
+pub lent_rom : OneOutcome LentRom.Post (λ r e. r.now)
+lent_rom κs a r r' e e' p q = same p q
+
+pub lent_data : OneOutcome LentData.Post (λ r e. r.now)
+lent_data κs a r r' e e' p q = same p q
+
+pub lent_input : OneOutcome LentInput.Post (λ r e. r.now)
+lent_input κs a r r' e e' p q = same p q
+
+pub lent_output_length : OneResult LentOutputLength.Post
+lent_output_length κs a r r' e e' p q = same p q
 
 pub region_present : OneResult RegionPresent.Post
 region_present κs a r r' e e' p q = same p q
