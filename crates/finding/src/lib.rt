@@ -20,6 +20,7 @@ pub fn find_word(cnf: u8, data: &[u16], address: u32) -> Found
 }
 
 // The region is worked out only for an instruction that makes an access.
+#[tactic(auto, unfolding(steps::specs::OperandFound::operand_found))]
 pub fn find_operand(access: Access, cnf: u8, data: &[u16], address: u32) -> Found
     ensures { result ≡ operand_found access cnf «data».now address }
 {
@@ -36,6 +37,7 @@ pub fn find_operand(access: Access, cnf: u8, data: &[u16], address: u32) -> Foun
     }
 }
 
+#[tactic(auto, unfolding(steps::specs::OperandFound::outside_by))]
 pub fn outside_by(access: Access, region: Region) -> Outside
     ensures { result ≡ outside_by access region }
 {

@@ -25,6 +25,7 @@ pub fn access_outside(region: Region) -> u16
     u16::from(matches!(region, Region::External))
 }
 
+#[tactic(auto, unfolding(board::specs::Regions::data_region))]
 pub fn data_region(cnf: u8, address: u32) -> Region
     ensures { result ≡ data_region cnf address }
 {
@@ -44,6 +45,7 @@ pub fn data_region(cnf: u8, address: u32) -> Region
 }
 
 // Whether an address is in an on-chip block that is now in data space.
+#[tactic(auto, unfolding(board::specs::Regions::on_chip))]
 pub fn on_chip(cnf: u8, address: u32) -> bool
     ensures { result ≡ on_chip cnf address }
 {
@@ -61,6 +63,7 @@ pub fn move_allowed(region: Region, cnf: u8, address: u32) -> bool
     on_chip(cnf, address + 1)
 }
 
+#[tactic(auto, unfolding(board::specs::Regions::in_rom))]
 pub fn in_rom(address: u16) -> bool
     ensures { result ≡ in_rom address }
 {
@@ -68,12 +71,14 @@ pub fn in_rom(address: u16) -> bool
 }
 
 // Whether B0 answers at a program address.
+#[tactic(auto, unfolding(board::specs::Regions::in_program_b0))]
 pub fn in_program_b0(cnf: u8, address: u16) -> bool
     ensures { result ≡ in_program_b0 cnf address }
 {
     (address >= 0xFF00) & (cnf == 1)
 }
 
+#[tactic(auto, unfolding(board::specs::Regions::program_present))]
 pub fn program_present(cnf: u8, address: u16) -> bool
     ensures { result ≡ program_present cnf address }
 {

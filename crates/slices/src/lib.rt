@@ -15,6 +15,7 @@ const PORT_WORDS_MAX: usize = 1024;
 const DATA_PAGE_WORDS: usize = 128;
 
 // Each of the two memories is of its size.
+#[tactic(auto, unfolding(board::specs::Slices::memories_fit))]
 pub fn memories_fit(rom: &[u16], data: &[u16]) -> bool
     ensures { result ≡ memories_fit rom.now «data».now }
 {
@@ -22,6 +23,7 @@ pub fn memories_fit(rom: &[u16], data: &[u16]) -> bool
 }
 
 // A port's slice is not over its size, and its cursor not past it.
+#[tactic(auto, unfolding(board::specs::Slices::port_fits))]
 pub fn port_fits(size: usize, cursor: u16) -> bool
     ensures { result ≡ port_fits size cursor }
 {
@@ -29,6 +31,7 @@ pub fn port_fits(size: usize, cursor: u16) -> bool
 }
 
 // Whether nothing is left of a port's slice: an input run dry, an output that is full.
+#[tactic(auto, unfolding(board::specs::Slices::port_spent))]
 pub fn port_spent(size: usize, cursor: u16) -> bool
     ensures { result ≡ port_spent size cursor }
 {
@@ -82,6 +85,7 @@ pub fn store_at(words: &mut [u16], at: u16, word: u16)
 }
 
 // A direct store: the part of the data slice that is the data page is lent on for the write.
+#[tactic(auto, using(board::specs::SliceLaws::data_page_put, board::specs::SliceLaws::data_page_missing))]
 pub fn store_word(data: &mut [u16], dp: u16, offset: u16, word: u16)
     ensures { «data».new ≡ data_page_stored «data».old dp offset word }
 {

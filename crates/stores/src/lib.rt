@@ -8,6 +8,7 @@ use board::Region;
 use pages::Store;
 use steps::Write;
 
+#[tactic(auto, unfolding(steps::specs::Stores::write_of), using(board::specs::RegionLaws::moves))]
 pub fn write_of(store: Store, region: Region, cnf: u8, address: u32, cursor: u16) -> Write
     ensures { result ≡ write_of store region cnf address cursor }
 {
