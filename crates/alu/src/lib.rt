@@ -2,7 +2,7 @@
 #![tactic(auto)]
 
 // What a sum or a difference leaves in ACC, OV and C.
-#[derive(Clone, Copy, Debug, PartialEq, Eq, Hash)]
+#[derive(Clone, Copy, Debug, PartialEq, Eq)]
 pub struct Sum {
     pub acc: u32,
     pub ov: u8,
@@ -10,7 +10,7 @@ pub struct Sum {
 }
 
 // What SFL and SFR leave in ACC and C.
-#[derive(Clone, Copy, Debug, PartialEq, Eq, Hash)]
+#[derive(Clone, Copy, Debug, PartialEq, Eq)]
 pub struct Shifted {
     pub acc: u32,
     pub c: u8,

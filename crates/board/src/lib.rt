@@ -1,5 +1,5 @@
 // What is on the board, what is lent for it and what is shown of it: the definitions in specs/, and here the types of a region, of a word that was found, and
-// of what a step is lent. The functions stand above.
+// of what a step is lent. The functions of a step stand above.
 #![tactic(auto)]
 
 ghost use Rattle.std.specs.Prelude.{◌≡◌};
@@ -8,7 +8,8 @@ ghost use Rattle.board.specs.Lent.{LentWords};
 
 use std::marker::Model;
 
-// Where a data address lies. One function, data_region, knows the ranges, and asks first for the one that frames lie in.
+// Where a data address lies. One function, data_region, knows the ranges, and asks first for the one that frames lie in. Absent is one of the board's cases, and no
+// `Option`: `region_present`, `region_on_chip` and `access_outside` each tell all five apart.
 #[derive(Clone, Copy, Debug, PartialEq, Eq)]
 pub enum Region {
     Absent,

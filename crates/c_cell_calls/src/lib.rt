@@ -6,18 +6,18 @@ ghost use Rattle.answers.specs.Numbers.{number_of};
 ghost use Rattle.machine.specs.Reset.{reset_machine};
 ghost use Rattle.c_cells.specs.Checks.{length_answer, cells_after};
 
-use answers::{Answer, Refusal, number};
+use answers::{Answer, Refusal, number_of};
 use c_cells::checking::length_answer;
 use c_cells::storing::put_cells;
 use machine::Machine;
 
 // What a run of refused cells is answered by: it has done no step.
-pub fn refused_run(refusal: Refusal, steps: &mut u32) -> u32
+pub fn put_refusal(refusal: Refusal, steps: &mut u32) -> u32
     ensures answered { result ≡ number_of (Err refusal) }
     ensures none { steps.new ≡ 0 }
 {
     *steps = 0;
-    u32::from(u8::from(refusal))
+    number_of(Err(refusal))
 }
 
 // The cells after reset, whatever they held.
@@ -26,7 +26,7 @@ pub fn reset_cells(cells: &mut [u32]) -> u32
 {
     let counted = length_answer(cells);
     put_cells(cells, Machine::reset());
-    u32::from(number(counted))
+    number_of(counted)
 }
 
 // The machine after a step, and the step's answer.
@@ -35,7 +35,7 @@ pub fn put_step(cells: &mut [u32], m: Machine, answer: Answer) -> u32
     ensures stored { cells.new ≡ cells_after cells.old m }
 {
     put_cells(cells, m);
-    u32::from(number(answer))
+    number_of(answer)
 }
 
 // The machine after a run, the steps done, and the last answer.

@@ -8,7 +8,7 @@ ghost use Rattle.runfile_writing.specs.Writing.{contents, write_answer, written}
 ghost use Rattle.runfile.specs.Facts.{CountsKept};
 ghost use Rattle.c_file_writing.specs.WriteCalls.{written_count};
 
-use answers::number;
+use answers::number_of;
 use runfile_writing::{file_length, write_file};
 
 // How many bytes the file of three lists has.
@@ -38,5 +38,5 @@ pub fn write_counted(
         Ok(()) => file_bytes(program, data, input),
         Err(_) => 0,
     };
-    u32::from(number(answer))
+    number_of(answer)
 }

@@ -6,7 +6,7 @@ ghost use Rattle.answers.specs.Numbers.{number_of};
 ghost use Rattle.runfile.specs.Files.{read_answer, read_contents};
 ghost use Rattle.runfile_setting_up.specs.SetUp.{lent, set_up_answer, set_up};
 
-use answers::number;
+use answers::number_of;
 use runfile::reading::{head_of, read_answer};
 use runfile_setting_up::set_up;
 
@@ -20,7 +20,7 @@ pub fn read_counts(bytes: &[u8], input_count: &mut usize, budget: &mut u16) -> u
     let head = head_of(bytes);
     *input_count = usize::from(head.input_count);
     *budget = head.budget;
-    u32::from(number(read_answer(bytes)))
+    number_of(read_answer(bytes))
 }
 
 // The memories and the input slice of a run file.
@@ -28,5 +28,5 @@ pub fn set_up_slices(bytes: &[u8], rom: &mut [u16], data: &mut [u16], input: &mu
     ensures answered { result ≡ number_of (set_up_answer bytes.now (lent rom.old «data».old input.old)) }
     ensures slices { lent rom.new «data».new input.new ≡ set_up bytes.now (lent rom.old «data».old input.old) }
 {
-    u32::from(number(set_up(bytes, rom, data, input)))
+    number_of(set_up(bytes, rom, data, input))
 }

@@ -3,7 +3,7 @@ ghost use Rattle.std.specs.Prelude.{◌≡◌};
 ghost use Rattle.c_window.specs.Shown.{placed, window_called};
 ghost use Rattle.c_window.specs.CallLaws.{memory_number, placed_by, window_placed};
 
-use answers::Refusal;
+use answers::{Refusal, number_of};
 use c_cells::reading::checked_machine;
 use machine::Machine;
 use regions::in_rom;
@@ -95,7 +95,7 @@ pub fn place_window<'a>(
             *memory = 0;
             *from = 0;
             *count = 0;
-            u32::from(u8::from(refusal))
+            number_of(Err(refusal))
         }
     }
 }

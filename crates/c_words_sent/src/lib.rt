@@ -5,7 +5,7 @@ ghost use Rattle.std.specs.Prelude.{◌≡◌};
 ghost use Rattle.c_words_sent.specs.Sent.{counted, sent_called};
 ghost use Rattle.c_words_sent.specs.CallLaws.{counted_by};
 
-use answers::Refusal;
+use answers::{Refusal, number_of};
 use c_cells::reading::checked_machine;
 use windows::{words_sent, words_sent_answer};
 
@@ -30,7 +30,7 @@ pub fn count_sent(cells: &[u32], output: &[u16], count: &mut usize) -> u32
         }
         Err(refusal) => {
             *count = 0;
-            u32::from(u8::from(refusal))
+            number_of(Err(refusal))
         }
     }
 }

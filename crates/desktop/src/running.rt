@@ -7,8 +7,8 @@ ghost use Rattle.desktop.specs.Calls.{called, step_called, run_called, outside_c
 ghost use Rattle.desktop.specs.CallLaws.{step_given, run_given, outside_given};
 ghost use Rattle.board.specs.Given.{given};
 
-use answers::Refusal;
-use c_cell_calls::{put_run, put_step, refused_run, reset_cells};
+use answers::{Refusal, number_of};
+use c_cell_calls::{put_refusal, put_run, put_step, reset_cells};
 use c_cells::reading::checked_machine;
 use c_results::{put_results, results_fit};
 use emulator::{Ran, Stepped, run, step};
@@ -62,7 +62,7 @@ pub fn crowmitten_step(
 {
     match step_of_cells(cells, rom, data, input, output) {
         Ok(stepped) => put_step(cells, stepped.m, Ok(())),
-        Err(refusal) => u32::from(u8::from(refusal)),
+        Err(refusal) => number_of(Err(refusal)),
     }
 }
 
@@ -79,7 +79,7 @@ pub fn crowmitten_run(
 {
     match run_of_cells(cells, rom, data, input, output, budget) {
         Ok(ran) => put_run(cells, ran.m, ran.answer, ran.steps, steps),
-        Err(refusal) => refused_run(refusal, steps),
+        Err(refusal) => put_refusal(refusal, steps),
     }
 }
 
@@ -97,7 +97,7 @@ pub fn crowmitten_run_with(
     ensures { record { results = results.new; after = called result cells.new «data».new output.new } ≡ run_with_called (given rom.now input.now) budget cells.old «data».old output.old results.old }
 {
     if !results_fit(results) {
-        return u32::from(u8::from(Refusal::SlicesUnfit));
+        return number_of(Err(Refusal::SlicesUnfit));
     }
     match run_of_cells(cells, rom, data, input, output, budget) {
         Ok(ran) => {
@@ -106,7 +106,7 @@ pub fn crowmitten_run_with(
         }
         Err(refusal) => {
             put_results(results, 0, Outside::NONE);
-            u32::from(u8::from(refusal))
+            number_of(Err(refusal))
         }
     }
 }

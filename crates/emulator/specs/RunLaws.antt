@@ -1,5 +1,5 @@
 -- Checks 1 and 2 made once, before a step or a run: proofs.
-use Rattle.std.specs.Prelude.{◌≡◌, Bool, List, [], ◌∷◌, length, get_or, Result, Ok, Err, IsErr, IsErrAnd, is_err}
+use Rattle.std.specs.Prelude.{◌≡◌, Bool, List, [], ◌∷◌, length, get_or, Result, Ok, Err, IsErr, IsErrAnd}
 use Rattle.std.proofs.lemmas.Bool.{false≢true}
 use Rattle.std.proofs.Math.Path.{refl, sym, ap}
 use Rattle.std.proofs.Common.{◌∙◌, arith}
@@ -231,15 +231,7 @@ module _ (g : Given) (budget : ℕ) (w₀ : World) (s₀ : List ℕ) where
             ),
           )
 
--- ---- what a refusal and a `?` tell
-
-pub refusing : (a b : Answer) → a ≡ b → is_err a ≡ true → is_done b ≡ false
-refusing (Ok _) b e h = absurd (false≢true h)
-refusing (Err _) b e h = ap is_done (sym e)
-
-pub none_refused : (a b : Answer) → a ≡ b → is_err a ≡ false → b ≡ Done
-none_refused (Ok tt) b e h = sym e
-none_refused (Err _) b e h = absurd (false≢true (sym h))
+-- ---- what a `?` passes on
 
 pub passed_on : {A E : Type 0} (r : Result A E) (e : E) → IsErr r × IsErrAnd r (λ (x : E). x ≡ e) → r ≡ Err e
 passed_on (Ok x) e h = absurd (false≢true h.0)

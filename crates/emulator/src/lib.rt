@@ -23,14 +23,14 @@ use steps::{Outside, Write};
 use summaries::{count_store, summary_fits};
 
 // What a step that is done leaves beside the slices.
-#[derive(Clone, Copy)]
+#[derive(Clone, Copy, Debug, PartialEq, Eq)]
 pub struct Stepped {
     pub m: Machine,
     pub outside: Outside,
 }
 
 // What a run leaves beside the slices: the steps that were done, and what ended it.
-#[derive(Clone, Copy)]
+#[derive(Clone, Copy, Debug, PartialEq, Eq)]
 pub struct Ran {
     pub m: Machine,
     pub steps: u16,
@@ -44,7 +44,7 @@ pub struct Ran {
 fn in_one(outside: Outside) -> u32
     ensures { result ≡ in_one outside }
 {
-    (outside.reads as u32) + 65536 * (outside.writes as u32)
+    u32::from(outside.reads) + 65536 * u32::from(outside.writes)
 }
 
 #[tactic(auto, unfolding(crate::specs::Totals::apart_from))]
@@ -131,13 +131,13 @@ fn check_with(summary: &[u16], m: Machine, lent: &Lent<'_>) -> Answer
 }
 
 // A run that is refused before its first step.
-fn not_begun(m: Machine, answer: Answer) -> Ran
-    ensures { result ≡ record { m = m; steps = 0; answer = answer; outside = none_outside } }
+fn not_begun(m: Machine, refusal: Refusal) -> Ran
+    ensures { result ≡ record { m = m; steps = 0; answer = Err refusal; outside = none_outside } }
 {
     Ran {
         m,
         steps: 0,
-        answer,
+        answer: Err(refusal),
         outside: Outside::NONE,
     }
 }
@@ -157,9 +157,8 @@ fn run_counted(
     ensures external { result.outside ≡ outside_of (given rom.now input.now) budget (record { m = m; «data» = «data».old; output = output.old }) }
     ensures stores { summary.new ≡ tallied add_store (plans_of (given rom.now input.now) budget (record { m = m; «data» = «data».old; output = output.old })) summary.old }
 {
-    let checked = check(m, &Lent::new(rom, &data[..], input, output.len()));
-    if checked.is_err() {
-        return not_begun(m, checked);
+    if let Err(refusal) = check(m, &Lent::new(rom, &data[..], input, output.len())) {
+        return not_begun(m, refusal);
     }
     let kinds = kinds::kinds();
     let mut n = m;
@@ -188,7 +187,8 @@ fn run_counted(
     }
 }
 
-// A run without a summary.
+// A run without a summary. The slices are lent one by one, as C lends them: a struct that held the two that change would have to promise in each contract that
+// it still holds the same two.
 pub fn run(
     m: Machine,
     rom: &[u16],
@@ -218,13 +218,9 @@ pub fn run_with(
     ensures external { result.outside ≡ outside_with summary.old (given rom.now input.now) budget (record { m = m; «data» = «data».old; output = output.old }) }
     ensures stores { summary.new ≡ summary_with summary.old (given rom.now input.now) budget (record { m = m; «data» = «data».old; output = output.old }) }
 {
-    let checked = check_with(
-        &summary[..],
-        m,
-        &Lent::new(rom, &data[..], input, output.len()),
-    );
-    if checked.is_err() {
-        return not_begun(m, checked);
+    let lent = Lent::new(rom, &data[..], input, output.len());
+    if let Err(refusal) = check_with(&summary[..], m, &lent) {
+        return not_begun(m, refusal);
     }
     run_counted(m, rom, data, input, output, summary, budget)
 }

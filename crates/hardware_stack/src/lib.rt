@@ -2,7 +2,7 @@
 #![tactic(auto)]
 
 // The eight-word stack, its top first.
-#[derive(Clone, Copy, Debug, PartialEq, Eq, Hash)]
+#[derive(Clone, Copy, Debug, PartialEq, Eq)]
 pub struct Stack {
     pub words: [u16; 8],
 }

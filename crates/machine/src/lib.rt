@@ -8,7 +8,7 @@ ghost use Rattle.machine.specs.Stack.{push_on, pop_on};
 use hardware_stack::Stack;
 
 // The cells of document 01, "The cells of the machine". Flags and pointers are numbers, so that check 1 can find one out of its range.
-#[derive(Clone, Copy, Debug, PartialEq, Eq, Hash)]
+#[derive(Clone, Copy, Debug, PartialEq, Eq)]
 pub struct Machine {
     pub stack: Stack,
     pub acc: u32,
@@ -34,7 +34,7 @@ pub struct Machine {
 }
 
 // A machine after a pop, and the word that was popped.
-#[derive(Clone, Copy, Debug, PartialEq, Eq, Hash)]
+#[derive(Clone, Copy, Debug, PartialEq, Eq)]
 pub struct AfterPop {
     pub m: Machine,
     pub word: u16,

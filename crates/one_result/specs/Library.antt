@@ -4,7 +4,8 @@ use Rattle.c_cells.proofs.checking.cells_answer.Reads as CellsAnswer
 use Rattle.c_cells.proofs.reading.machine_of.Reads as MachineOf
 use Rattle.c_cells.proofs.reading.checked_machine.Reads as CheckedMachine
 use Rattle.c_cells.proofs.storing.put_cells.Reads as PutCells
-use Rattle.c_cell_calls.proofs.refused_run.Reads as RefusedRun
+use Rattle.answers.proofs.number_of.Reads as NumberOf
+use Rattle.c_cell_calls.proofs.put_refusal.Reads as PutRefusal
 use Rattle.c_cell_calls.proofs.reset_cells.Reads as ResetCells
 use Rattle.c_cell_calls.proofs.put_step.Reads as PutStep
 use Rattle.c_cell_calls.proofs.put_run.Reads as PutRun
@@ -53,8 +54,11 @@ checked_machine κs a r r' e e' p q = same p q
 pub put_cells : OneOutcome PutCells.Post (λ r e. e.0.now)
 put_cells κs a r r' e e' p q = same p q
 
-pub refused_run : OneOutcome RefusedRun.Post (λ r e. pair r e.1.0.now)
-refused_run κs a r r' e e' p q = same_pair (same p.0 q.0) (same p.1 q.1)
+pub number_of : OneResult NumberOf.Post
+number_of κs a r r' e e' p q = same p q
+
+pub put_refusal : OneOutcome PutRefusal.Post (λ r e. pair r e.1.0.now)
+put_refusal κs a r r' e e' p q = same_pair (same p.0 q.0) (same p.1 q.1)
 
 pub reset_cells : OneOutcome ResetCells.Post (λ r e. pair r e.0.now)
 reset_cells κs a r r' e e' p q = same_pair (same p.0 q.0) (same p.1 q.1)

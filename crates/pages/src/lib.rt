@@ -4,7 +4,7 @@
 use machine::Machine;
 use operands::Address;
 
-// Whether the addressed data word is read, written, or not touched.
+// Whether the addressed data word is read, written, or not touched. Not an `Option`: each match asks for the three cases side by side.
 #[derive(Clone, Copy, Debug, PartialEq, Eq)]
 pub enum Access {
     None,
@@ -12,6 +12,7 @@ pub enum Access {
     Writes,
 }
 
+// The port that an instruction takes a word from or sends one to; three cases side by side, as `Access`.
 #[derive(Clone, Copy, Debug, PartialEq, Eq)]
 pub enum Port {
     None,
@@ -32,7 +33,7 @@ pub struct Traits {
 }
 
 // The words that a pass reads. What the instruction does not use is not looked at.
-#[derive(Clone, Copy, Debug, PartialEq, Eq, Hash)]
+#[derive(Clone, Copy, Debug, PartialEq, Eq)]
 pub struct Words {
     // The data word at the operand's address.
     pub operand: u16,
@@ -45,8 +46,8 @@ pub struct Words {
     pub next: u16,
 }
 
-// What a pass stores besides the machine's cells.
-#[derive(Clone, Copy, Debug, PartialEq, Eq, Hash)]
+// What a pass stores besides the machine's cells. Nothing is one of four cases, and no `Option`: each match asks for all of them.
+#[derive(Clone, Copy, Debug, PartialEq, Eq)]
 pub enum Store {
     Nothing,
     // A data word, at the operand's address.
@@ -58,7 +59,7 @@ pub enum Store {
 }
 
 // The machine after a page's rule, RPTC, MID and PC not yet moved on, and what is to be stored.
-#[derive(Clone, Copy, Debug, PartialEq, Eq, Hash)]
+#[derive(Clone, Copy, Debug, PartialEq, Eq)]
 pub struct Effect {
     pub m: Machine,
     pub store: Store,

@@ -35,7 +35,7 @@ pub fn program_word<'a>(cnf: u8, at: u16, rom: &'a [u16], data: &'a [u16]) -> u1
 }
 
 // The words that a pass reads from the memories, the operand's found before.
-#[derive(Clone, Copy)]
+#[derive(Clone, Copy, Debug, PartialEq, Eq)]
 struct MemoryWords {
     operand: u16,
     second: u16,
@@ -126,6 +126,13 @@ pub fn plan_pass(
     let address = address_of(m, t.operand);
     let found = find_operand(t.access, m.cnf, lent.data(), address);
     let outside = outside_by(t.access, found.region);
-    pass_refusal(t, found.region, second, lent, m)?;
+    pass_refusal(
+        t,
+        found.region,
+        second,
+        lent.input().len(),
+        lent.output_length(),
+        m,
+    )?;
     Ok(perform(i, t, address, found, outside, second, lent, m))
 }

@@ -1,7 +1,7 @@
 // What refuses a pass of a decoded instruction: the last rows of the order of the answers.
 #![tactic(auto)]
 
-ghost use Rattle.std.specs.Prelude.{◌≡◌, not, ◌&&◌, ◌||◌, length};
+ghost use Rattle.std.specs.Prelude.{◌≡◌, not, ◌&&◌, ◌||◌};
 ghost use Rattle.board.specs.Regions.{program_present};
 ghost use Rattle.board.specs.Slices.{port_spent};
 ghost use Rattle.steps.specs.Rows.{first_given};
@@ -9,7 +9,7 @@ ghost use Rattle.steps.specs.Refusals.{accesses, wrong_port, takes, sends, acces
 
 use addressing::table_address;
 use answers::{Answer, Refusal};
-use board::{Lent, Region};
+use board::Region;
 use machine::Machine;
 use pages::{Access, Port, Traits};
 
@@ -54,13 +54,13 @@ pub fn is_program_absent(needed: bool, cnf: u8, at: u16) -> bool
 
 // Whether nothing is left of the port's slice. Both ports are asked at once, so that an instruction without one meets one test.
 #[tactic(auto, unfolding(steps::specs::Refusals::takes, steps::specs::Refusals::sends))]
-fn is_port_spent(port: Port, lent: &Lent<'_>, m: Machine) -> bool
-    ensures { result ≡ (takes port && port_spent (length lent.now.given.input) m.input_cursor || sends port && port_spent lent.now.output_length m.output_cursor) }
+fn is_port_spent(port: Port, input_length: usize, output_length: usize, m: Machine) -> bool
+    ensures { result ≡ (takes port && port_spent input_length m.input_cursor || sends port && port_spent output_length m.output_cursor) }
 {
     match port {
         Port::None => false,
-        Port::Input(_) => slices::port_spent(lent.input().len(), m.input_cursor),
-        Port::Output(_) => slices::port_spent(lent.output_length(), m.output_cursor),
+        Port::Input(_) => slices::port_spent(input_length, m.input_cursor),
+        Port::Output(_) => slices::port_spent(output_length, m.output_cursor),
     }
 }
 
@@ -80,10 +80,16 @@ fn access_refusal(t: Traits, region: Region) -> Answer
 
 // What the rest asks: 11, 5 for a table word, and 10.
 #[tactic(auto, unfolding(steps::specs::Refusals::input_dry, steps::specs::Refusals::table_absent, steps::specs::Refusals::output_full), using(steps::proofs::RefusalLaws::rest_first))]
-fn rest_refusal(t: Traits, second: u16, lent: &Lent<'_>, m: Machine) -> Answer
-    ensures { result ≡ first_given (rest_rows t second (length lent.now.given.input) lent.now.output_length m) }
+fn rest_refusal(
+    t: Traits,
+    second: u16,
+    input_length: usize,
+    output_length: usize,
+    m: Machine,
+) -> Answer
+    ensures { result ≡ first_given (rest_rows t second input_length output_length m) }
 {
-    let spent = is_port_spent(t.port, lent, m);
+    let spent = is_port_spent(t.port, input_length, output_length, m);
     if spent & is_input(t.port) {
         return Err(Refusal::InputDry);
     }
@@ -99,9 +105,16 @@ fn rest_refusal(t: Traits, second: u16, lent: &Lent<'_>, m: Machine) -> Answer
 
 // The first of the last rows of the order that holds, for an operand in this region.
 #[tactic(auto, using(steps::proofs::RefusalLaws::pass_first))]
-pub fn pass_refusal(t: Traits, region: Region, second: u16, lent: &Lent<'_>, m: Machine) -> Answer
-    ensures { result ≡ pass_refusal t region second (length lent.now.given.input) lent.now.output_length m }
+pub fn pass_refusal(
+    t: Traits,
+    region: Region,
+    second: u16,
+    input_length: usize,
+    output_length: usize,
+    m: Machine,
+) -> Answer
+    ensures { result ≡ pass_refusal t region second input_length output_length m }
 {
     access_refusal(t, region)?;
-    rest_refusal(t, second, lent, m)
+    rest_refusal(t, second, input_length, output_length, m)
 }

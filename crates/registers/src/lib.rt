@@ -19,7 +19,7 @@ pub fn wrapped_difference(a: u16, b: u16) -> u16
 }
 
 // `rest` is what is still to be added, at first all of `b`. A turn adds each of its bits by itself; where both have a 1, a 1 is left to be added to the bit
-// below. So the carry runs downward: the highest bit of the rest falls with every turn, and the sum's bits above it are final (docs/REVERSED-CARRY.md).
+// below. No index is counted. So the carry runs downward: the highest bit of the rest falls with every turn, and the sum's bits above it are final (docs/REVERSED-CARRY.md).
 #[tactic(auto, using(crate::specs::CarryLaws::adding_begins, crate::specs::CarryLaws::adding_ends))]
 pub fn reversed_sum(a: u16, b: u16) -> u16
     ensures { result ≡ reversed_sum a b }

@@ -27,7 +27,7 @@ pub fn memories_fit(rom: &[u16], data: &[u16]) -> bool
 pub fn port_fits(size: usize, cursor: u16) -> bool
     ensures { result ≡ port_fits size cursor }
 {
-    (size <= PORT_WORDS_MAX) & (cursor as usize <= size)
+    (size <= PORT_WORDS_MAX) & (usize::from(cursor) <= size)
 }
 
 // Whether nothing is left of a port's slice: an input run dry, an output that is full.
@@ -35,7 +35,7 @@ pub fn port_fits(size: usize, cursor: u16) -> bool
 pub fn port_spent(size: usize, cursor: u16) -> bool
     ensures { result ≡ port_spent size cursor }
 {
-    size <= cursor as usize
+    size <= usize::from(cursor)
 }
 
 // Check 2 of a step or a run.
@@ -59,11 +59,11 @@ pub fn part<'a>(words: &'a [u16], from: usize, to: usize) -> &'a [u16]
     &words[start..end]
 }
 
-// A word of a slice, 0 where there is none.
+// A word of a slice, 0 where there is none. By an index: on a step's path `get` takes more instructions (addressing, `register_of`).
 fn word_at(words: &[u16], at: u16) -> u16
     ensures { result ≡ get_or words.now at 0 }
 {
-    let i = at as usize;
+    let i = usize::from(at);
     if i < words.len() { words[i] } else { 0 }
 }
 
@@ -74,11 +74,11 @@ pub fn input_word(input: &[u16], cursor: u16) -> u16
     word_at(input, cursor)
 }
 
-// A store that changes nothing where the slice has no such word.
+// A store that changes nothing where the slice has no such word. By an index: of a slice whose `get_mut` gives nothing the check does not know that it is unchanged.
 pub fn store_at(words: &mut [u16], at: u16, word: u16)
     ensures { words.new ≡ set words.old at word }
 {
-    let i = at as usize;
+    let i = usize::from(at);
     if i < words.len() {
         words[i] = word;
     }
@@ -89,7 +89,7 @@ pub fn store_at(words: &mut [u16], at: u16, word: u16)
 pub fn store_word(data: &mut [u16], dp: u16, offset: u16, word: u16)
     ensures { «data».new ≡ data_page_stored «data».old dp offset word }
 {
-    let base = DATA_PAGE_WORDS * dp as usize;
+    let base = DATA_PAGE_WORDS * usize::from(dp);
     let end = base + DATA_PAGE_WORDS;
     if end <= data.len() {
         store_at(&mut data[base..end], offset, word);

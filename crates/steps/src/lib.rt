@@ -4,7 +4,7 @@
 
 use machine::Machine;
 
-// The one store of a step. An address is that of document 01, before it is known to be on the board.
+// The one store of a step; nothing is a case beside the others, as in pages' `Store`. An address is that of document 01, before it is known to be on the board.
 #[derive(Clone, Copy, Debug, PartialEq, Eq)]
 pub enum Write {
     Nothing,
@@ -27,7 +27,7 @@ impl Outside {
 }
 
 // What a pass that is not refused makes of the machine, what it stores and what it counts. A refusal has none of it.
-#[derive(Clone, Copy)]
+#[derive(Clone, Copy, Debug, PartialEq, Eq)]
 pub struct Pass {
     pub m: Machine,
     pub write: Write,

@@ -2,7 +2,7 @@
 #![tactic(auto)]
 
 ghost use Rattle.std.specs.Prelude.{◌≡◌};
-ghost use Rattle.pages.specs.Traits.{plain, constant, reading, writing, modifying, counting, tabled, branching, taking, sending, accumulator_traits, multiplier_traits, auxiliary_traits, branches_traits, transfers_traits, modes_traits, traits_of};
+ghost use Rattle.pages.specs.Traits.{reading, writing, modifying, counting, tabled, branching, taking, sending, accumulator_traits, multiplier_traits, auxiliary_traits, branches_traits, transfers_traits, modes_traits, traits_of};
 
 use instructions::{Accumulator, Auxiliary, Branches, Instruction, Modes, Multiplier, Transfers};
 use operands::{Address, Indirect};

@@ -9,13 +9,14 @@ use machine::Machine;
 use regions::{in_program_b0, in_rom, program_present};
 use slices::{memories_fit, part, port_fits};
 
-// The run of words from a program address to the end of its region, in whichever of the two memories holds it.
+// The run of words from a program address to the end of its region, in whichever of the two memories holds it. Both are parameters, and no struct, since the
+// contract says where in which of the two a window begins.
 #[tactic(auto, unfolding(board::specs::Windows::window_of, board::specs::Windows::window_start), using(board::specs::RegionLaws::program_b0))]
 pub fn region_window<'a>(cnf: u8, at: u16, rom: &'a [u16], data: &'a [u16]) -> &'a [u16]
     ensures result_value { result.now ≡ window_of cnf at rom.now «data».now }
     ensures ref_ptr_value { result.ref_ptr ≡ window_start cnf at rom.entry «data».entry }
 {
-    let from = at as usize;
+    let from = usize::from(at);
     if in_rom(at) {
         return part(rom, from, 0x1000);
     }
@@ -75,7 +76,7 @@ pub fn words_sent<'a>(m: Machine, output: &'a [u16]) -> &'a [u16]
     ensures ref_ptr_value { result.ref_ptr ≡ output.entry.ref_ptr }
 {
     if words_sent_answer(m, output).is_ok() {
-        let sent = m.output_cursor as usize;
+        let sent = usize::from(m.output_cursor);
         return &output[..sent];
     }
     &output[..0]

@@ -6,4 +6,4 @@ use Rattle.board.specs.WindowLaws.{sent_done}
 use Rattle.windows.proofs.words_sent.Goals as goal
 
 pub slice_bounds-result-end : goal.slice_bounds-result-end
-slice_bounds-result-end c = sym (length-take-le _ _ (sent_done _ _ (ap is_done (sym c.words_sent_answer.ensures) ∙ (sym c.is_ok.ensures.value ∙ c.if-is_ok.true))).port.not_past)
+slice_bounds-result-end c = rw c.from-sent.ensures (sym (length-take-le _ _ (sent_done _ _ (ap is_done (sym c.words_sent_answer.ensures) ∙ (sym c.is_ok.ensures.value ∙ c.if-is_ok.true))).port.not_past))
