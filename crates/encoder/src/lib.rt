@@ -7,16 +7,17 @@ ghost use Rattle.std.specs.Prelude.{◌≡◌};
 ghost use Rattle.encodings.specs.Encode.{accumulator_fields, multiplier_fields, auxiliary_fields, branch_fields};
 ghost use Rattle.encodings.specs.Encode.{transfer_fields, mode_fields, word_of, encode_of};
 
-use crate::operand_words::{addressed, branching, constant, selected, shifted};
+use crate::operand_words::{addressed, branching, constant};
 use instructions::{Accumulator, Auxiliary, Branches, Instruction, Modes, Multiplier, Transfers};
 
+// A field of four or of three bits is the low part of the upper byte.
 fn accumulator_word(x: Accumulator) -> u16
     ensures { result ≡ word_of (accumulator_fields x) }
 {
     match x {
-        Accumulator::Add(s, a) => shifted(0, s, a),
-        Accumulator::Sub(s, a) => shifted(1, s, a),
-        Accumulator::Lac(s, a) => shifted(2, s, a),
+        Accumulator::Add(s, a) => addressed(s % 16, a),
+        Accumulator::Sub(s, a) => addressed(0x10 + s % 16, a),
+        Accumulator::Lac(s, a) => addressed(0x20 + s % 16, a),
         Accumulator::Addh(a) => addressed(0x48, a),
         Accumulator::Adds(a) => addressed(0x49, a),
         Accumulator::Subh(a) => addressed(0x44, a),
@@ -27,8 +28,8 @@ fn accumulator_word(x: Accumulator) -> u16
         Accumulator::And(a) => addressed(0x4E, a),
         Accumulator::Or(a) => addressed(0x4D, a),
         Accumulator::Xor(a) => addressed(0x4C, a),
-        Accumulator::Sacl(shift, a) => selected(12, shift, a),
-        Accumulator::Sach(shift, a) => selected(13, shift, a),
+        Accumulator::Sacl(shift, a) => addressed(0x60 + shift % 8, a),
+        Accumulator::Sach(shift, a) => addressed(0x68 + shift % 8, a),
         Accumulator::Lack(k) => constant(0xCA, k),
         Accumulator::Addk(k) => constant(0xCC, k),
         Accumulator::Subk(k) => constant(0xCD, k),
@@ -70,8 +71,8 @@ fn auxiliary_word(x: Auxiliary) -> u16
     ensures { result ≡ word_of (auxiliary_fields x) }
 {
     match x {
-        Auxiliary::Lar(r, a) => selected(6, r, a),
-        Auxiliary::Sar(r, a) => selected(14, r, a),
+        Auxiliary::Lar(r, a) => addressed(0x30 + r % 8, a),
+        Auxiliary::Sar(r, a) => addressed(0x70 + r % 8, a),
         Auxiliary::Lark(r, k) => constant(0xC0 + r % 8, k),
         Auxiliary::Mar(a) => addressed(0x55, a),
         Auxiliary::Adrk(k) => constant(0x7E, k),
@@ -105,8 +106,8 @@ fn transfer_word(x: Transfers) -> u16
 {
     match x {
         Transfers::Dmov(a) => addressed(0x56, a),
-        Transfers::In(port, a) => shifted(8, port, a),
-        Transfers::Out(port, a) => shifted(14, port, a),
+        Transfers::In(port, a) => addressed(0x80 + port % 16, a),
+        Transfers::Out(port, a) => addressed(0xE0 + port % 16, a),
     }
 }
 

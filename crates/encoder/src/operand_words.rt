@@ -46,17 +46,3 @@ pub fn addressed(upper: u8, a: Address) -> u16
         Address::Indirect(i) => branching(upper, i),
     }
 }
-
-// Four bits, a field of four, and IDDD DDDD.
-pub fn shifted(high: u8, s: u8, a: Address) -> u16
-    ensures { result ≡ ((high % 16 * 16 + s % 16) * 2 + is_indirect a % 2) * 128 + address_bits a % 128 }
-{
-    addressed(high % 16 * 16 + s % 16, a)
-}
-
-// Five bits, a field of three, and IDDD DDDD.
-pub fn selected(high: u8, x: u8, a: Address) -> u16
-    ensures { result ≡ ((high % 32 * 8 + x % 8) * 2 + is_indirect a % 2) * 128 + address_bits a % 128 }
-{
-    addressed(high % 32 * 8 + x % 8, a)
-}

@@ -4,3 +4,4 @@ pub mod Placing
 pub mod Facts
 -- laws
 pub mod PlacingLaws
+pub mod Writing

@@ -2,10 +2,9 @@
 ghost use Rattle.std.specs.Prelude.{◌≡◌, [], ◌∷◌, ◌++◌, ◌+◌, length};
 ghost use Rattle.line_digits.specs.Digits.{decimal};
 ghost use Rattle.line_fields.specs.Placing.{line_in, length_in};
-ghost use Rattle.line_fields.specs.Facts.{Put, Room, cells_of, line_of_fields};
+ghost use Rattle.line_fields.specs.Facts.{cells_of, line_of_fields};
 
-use crate::numbers::{put_byte, put_decimal};
-use crate::parts::{put_decimal_field, put_long_field, put_word_field, put_words};
+use crate::numbers::Writer;
 use line_digits::decimal_length;
 use std::marker::Model;
 
@@ -29,6 +28,8 @@ impl<'a> Model for Fields<'a> {
 }
 
 impl<'a> Fields<'a> {
+    ghost use Rattle.line_fields.specs.Writing.{Fits, Wrote};
+
     // How many bytes a line has beside its words: the decimal fields, and 17 for PC, ACC, the spaces and the newline.
     fn cells_length(&self) -> usize
         ensures { result ≡ length (decimal self.now.answer) + length (decimal self.now.steps) + length (decimal self.now.ov) + 17 }
@@ -37,25 +38,25 @@ impl<'a> Fields<'a> {
     }
 
     // The answer and the cells.
-    fn put_cells(&self, bytes: &mut [u8]) -> usize
-        requires { Room bytes.old 0 (cells_of self.now) }
-        ensures { Put bytes.old 0 (cells_of self.now) bytes.new result }
+    fn put_cells(&self, writer: &mut Writer<'_>)
+        requires { Fits writer.old (cells_of self.now) }
+        ensures { Wrote writer.old (cells_of self.now) writer.new }
     {
-        let answered = put_decimal(bytes, 0, self.answer);
-        let counted = put_decimal_field(bytes, answered, self.steps);
-        let at_pc = put_word_field(bytes, counted, self.pc);
-        let at_acc = put_long_field(bytes, at_pc, self.acc);
-        put_decimal_field(bytes, at_acc, self.ov)
+        writer.decimal(self.answer);
+        writer.decimal_field(self.steps);
+        writer.word_field(self.pc);
+        writer.long_field(self.acc);
+        writer.decimal_field(self.ov);
     }
 
     // The fields and the newline.
-    fn put_line(&self, bytes: &mut [u8]) -> usize
-        requires { Room bytes.old 0 (line_of_fields self.now) }
-        ensures { Put bytes.old 0 (line_of_fields self.now) bytes.new result }
+    fn put_line(&self, writer: &mut Writer<'_>)
+        requires { Fits writer.old (line_of_fields self.now) }
+        ensures { Wrote writer.old (line_of_fields self.now) writer.new }
     {
-        let cells = self.put_cells(bytes);
-        let sent = put_words(bytes, cells, self.words);
-        put_byte(bytes, sent, b'\n')
+        self.put_cells(writer);
+        writer.word_fields(self.words);
+        writer.byte(b'\n');
     }
 
     // The line at the start of lent bytes, and its length; where it does not fit, 0 and no byte is put down.
@@ -69,7 +70,9 @@ impl<'a> Fields<'a> {
         if bytes.len() - 5 * self.words.len() < self.cells_length() {
             return 0;
         }
-        self.put_line(bytes)
+        let mut writer = Writer { bytes, at: 0 };
+        self.put_line(&mut writer);
+        writer.at
     }
 }
 
@@ -80,6 +83,8 @@ pub fn fit_number(bytes: &mut [u8], n: u32, end: u8) -> usize
     if bytes.len() < decimal_length(n) + 1 {
         return 0;
     }
-    let next = put_decimal(bytes, 0, n);
-    put_byte(bytes, next, end)
+    let mut writer = Writer { bytes, at: 0 };
+    writer.decimal(n);
+    writer.byte(end);
+    writer.at
 }

@@ -2,44 +2,52 @@
 // `fit_line` promises its bytes for every line that fits.
 ghost use Rattle.std.specs.Prelude.{[], ◌∷◌};
 ghost use Rattle.line_digits.specs.Digits.{hexadecimal, decimal};
-ghost use Rattle.line_fields.specs.Facts.{Put, Room};
 
 use line_digits::digit;
 
-// One byte.
-pub fn put_byte(bytes: &mut [u8], at: usize, byte: u8) -> usize
-    requires { Room bytes.old at (byte ∷ []) }
-    ensures { Put bytes.old at (byte ∷ []) bytes.new result }
-{
-    bytes[at] = byte;
-    at + 1
+// Lent bytes, and where the next byte goes.
+#[derive(Drop)]
+pub struct Writer<'a> {
+    pub bytes: &'a mut [u8],
+    pub at: usize,
 }
 
-// The last four hexadecimal digits of a number.
-pub fn put_four(bytes: &mut [u8], at: usize, n: u32) -> usize
-    requires { Room bytes.old at (hexadecimal 4 n) }
-    ensures { Put bytes.old at (hexadecimal 4 n) bytes.new result }
-{
-    let without_last = n / 16;
-    let without_two = without_last / 16;
-    let first = digit(without_two / 16);
-    let second = digit(without_two);
-    let third = digit(without_last);
-    let fourth = digit(n);
-    let one = put_byte(bytes, at, first);
-    let two = put_byte(bytes, one, second);
-    let three = put_byte(bytes, two, third);
-    put_byte(bytes, three, fourth)
-}
+impl<'a> Writer<'a> {
+    ghost use Rattle.line_fields.specs.Writing.{Fits, Wrote};
 
-// A number in decimal.
-pub fn put_decimal(bytes: &mut [u8], at: usize, n: u32) -> usize
-    requires { Room bytes.old at (decimal n) }
-    ensures { Put bytes.old at (decimal n) bytes.new result }
-{
-    if n < 10 {
-        return put_byte(bytes, at, digit(n));
+    // One byte.
+    pub fn byte(&mut self, byte: u8)
+        requires { Fits self.old (byte ∷ []) }
+        ensures { Wrote self.old (byte ∷ []) self.new }
+    {
+        self.bytes[self.at] = byte;
+        self.at += 1;
     }
-    let last = put_decimal(bytes, at, n / 10);
-    put_byte(bytes, last, digit(n % 10))
+
+    // The last four hexadecimal digits of a number.
+    pub fn four(&mut self, n: u32)
+        requires { Fits self.old (hexadecimal 4 n) }
+        ensures { Wrote self.old (hexadecimal 4 n) self.new }
+    {
+        let without_last = n / 16;
+        let without_two = without_last / 16;
+        self.byte(digit(without_two / 16));
+        self.byte(digit(without_two));
+        self.byte(digit(without_last));
+        self.byte(digit(n));
+    }
+
+    // A number in decimal.
+    #[tactic(auto, using(crate::specs::Writing::more_fits))]
+    pub fn decimal(&mut self, n: u32)
+        requires { Fits self.old (decimal n) }
+        ensures { Wrote self.old (decimal n) self.new }
+    {
+        if n < 10 {
+            self.byte(digit(n));
+            return;
+        }
+        self.decimal(n / 10);
+        self.byte(digit(n % 10));
+    }
 }

@@ -2,47 +2,49 @@
 ghost use Rattle.std.specs.Prelude.{◌∷◌};
 ghost use Rattle.line_digits.specs.Digits.{hexadecimal, decimal};
 ghost use Rattle.line_fields.specs.Placing.{space};
-ghost use Rattle.line_fields.specs.Facts.{Put, Room, word_fields};
+ghost use Rattle.line_fields.specs.Facts.{word_fields};
 
-use crate::numbers::{put_byte, put_decimal, put_four};
+use crate::numbers::Writer;
 
-// A space and a number in decimal.
-#[tactic(auto, using(crate::specs::PlacingLaws::put_then))]
-pub fn put_decimal_field(bytes: &mut [u8], at: usize, n: u32) -> usize
-    requires { Room bytes.old at (space ∷ decimal n) }
-    ensures { Put bytes.old at (space ∷ decimal n) bytes.new result }
-{
-    let from = put_byte(bytes, at, b' ');
-    put_decimal(bytes, from, n)
-}
+impl<'a> Writer<'a> {
+    ghost use Rattle.line_fields.specs.Writing.{Fits, Wrote};
 
-// A space and four hexadecimal digits.
-#[tactic(auto, using(crate::specs::PlacingLaws::put_then))]
-pub fn put_word_field(bytes: &mut [u8], at: usize, n: u32) -> usize
-    requires { Room bytes.old at (space ∷ hexadecimal 4 n) }
-    ensures { Put bytes.old at (space ∷ hexadecimal 4 n) bytes.new result }
-{
-    let from = put_byte(bytes, at, b' ');
-    put_four(bytes, from, n)
-}
-
-// A space and eight hexadecimal digits.
-pub fn put_long_field(bytes: &mut [u8], at: usize, n: u32) -> usize
-    requires { Room bytes.old at (space ∷ hexadecimal 8 n) }
-    ensures { Put bytes.old at (space ∷ hexadecimal 8 n) bytes.new result }
-{
-    let upper = put_word_field(bytes, at, n / 65536);
-    put_four(bytes, upper, n)
-}
-
-// The words sent.
-pub fn put_words(bytes: &mut [u8], at: usize, words: &[u16]) -> usize
-    requires { Room bytes.old at (word_fields words.now) }
-    ensures { Put bytes.old at (word_fields words.now) bytes.new result }
-{
-    let mut next = at;
-    for word in words {
-        next = put_word_field(bytes, next, u32::from(*word));
+    // A space and a number in decimal. One function for it and the next would take the digits' method as a closure with a contract of its own: no plainer.
+    #[tactic(auto, using(crate::specs::Writing::wrote_then))]
+    pub fn decimal_field(&mut self, n: u32)
+        requires { Fits self.old (space ∷ decimal n) }
+        ensures { Wrote self.old (space ∷ decimal n) self.new }
+    {
+        self.byte(b' ');
+        self.decimal(n);
     }
-    next
+
+    // A space and four hexadecimal digits.
+    #[tactic(auto, using(crate::specs::Writing::wrote_then))]
+    pub fn word_field(&mut self, n: u32)
+        requires { Fits self.old (space ∷ hexadecimal 4 n) }
+        ensures { Wrote self.old (space ∷ hexadecimal 4 n) self.new }
+    {
+        self.byte(b' ');
+        self.four(n);
+    }
+
+    // A space and eight hexadecimal digits.
+    pub fn long_field(&mut self, n: u32)
+        requires { Fits self.old (space ∷ hexadecimal 8 n) }
+        ensures { Wrote self.old (space ∷ hexadecimal 8 n) self.new }
+    {
+        self.word_field(n / 65536);
+        self.four(n);
+    }
+
+    // The words sent.
+    pub fn word_fields(&mut self, words: &[u16])
+        requires { Fits self.old (word_fields words.now) }
+        ensures { Wrote self.old (word_fields words.now) self.new }
+    {
+        for word in words {
+            self.word_field(u32::from(*word));
+        }
+    }
 }

@@ -1,25 +1,29 @@
 -- Not routine: the definition makes the word bit by bit as its page prints it; a law says that a field's bits are the sum that the code makes.
-use mathlib.Core.Path.{refl, sym, ◌∙◌}
+use Rattle.std.proofs.Common.{◌≡◌, ℕ, ◌+◌, ◌*◌, ◌%◌, refl, sym, ◌∙◌, arith}
 use Rattle.encodings.specs.Encode.{word_of, accumulator_fields}
 use Rattle.encodings.specs.Bits.{field_after_lem}
 use Rattle.encoder.specs.EncodeLaws.{by_case, of_address, of_selected, of_shifted}
 use Rattle.encoder.proofs.accumulator_word.Goals as goal
 
+-- of_shifted writes the upper bits out, and ADD has 0 there
+zero_more : (n : ℕ) → 0 * 16 + n ≡ n
+zero_more n = omega arith
+
 pub returns-in-Add : goal.returns-in-Add
 unfolding word_of accumulator_fields
-returns-in-Add c = by_case (λ y. word_of (accumulator_fields y)) c.in-Add.is (of_shifted 0 _ _ c.shifted.ensures)
+returns-in-Add c = by_case (λ y. word_of (accumulator_fields y)) c.in-Add.is (of_shifted 0 c.in-Add.s c.in-Add.a (rw (zero_more (c.in-Add.s % 16)) c.addressed.ensures))
 
 pub returns-in-Sub : goal.returns-in-Sub
 unfolding word_of accumulator_fields
-returns-in-Sub c = by_case (λ y. word_of (accumulator_fields y)) c.in-Sub.is (of_shifted 1 _ _ c.shifted-in-Sub.ensures)
+returns-in-Sub c = by_case (λ y. word_of (accumulator_fields y)) c.in-Sub.is (of_shifted 1 _ _ c.addressed-in-Sub.ensures)
 
 pub returns-in-Lac : goal.returns-in-Lac
 unfolding word_of accumulator_fields
-returns-in-Lac c = by_case (λ y. word_of (accumulator_fields y)) c.in-Lac.is (of_shifted 2 _ _ c.shifted-in-Lac.ensures)
+returns-in-Lac c = by_case (λ y. word_of (accumulator_fields y)) c.in-Lac.is (of_shifted 2 _ _ c.addressed-in-Lac.ensures)
 
 pub returns-in-Addh : goal.returns-in-Addh
 unfolding word_of accumulator_fields
-returns-in-Addh c = by_case (λ y. word_of (accumulator_fields y)) c.in-Addh.is (of_address 0x48 _ c.addressed.ensures)
+returns-in-Addh c = by_case (λ y. word_of (accumulator_fields y)) c.in-Addh.is (of_address 0x48 _ c.addressed-in-Addh.ensures)
 
 pub returns-in-Adds : goal.returns-in-Adds
 unfolding word_of accumulator_fields
@@ -59,11 +63,11 @@ returns-in-Xor c = by_case (λ y. word_of (accumulator_fields y)) c.in-Xor.is (o
 
 pub returns-in-Sacl : goal.returns-in-Sacl
 unfolding word_of accumulator_fields
-returns-in-Sacl c = by_case (λ y. word_of (accumulator_fields y)) c.in-Sacl.is (of_selected 12 _ _ c.selected.ensures)
+returns-in-Sacl c = by_case (λ y. word_of (accumulator_fields y)) c.in-Sacl.is (of_selected 12 _ _ c.addressed-in-Sacl.ensures)
 
 pub returns-in-Sach : goal.returns-in-Sach
 unfolding word_of accumulator_fields
-returns-in-Sach c = by_case (λ y. word_of (accumulator_fields y)) c.in-Sach.is (of_selected 13 _ _ c.selected-in-Sach.ensures)
+returns-in-Sach c = by_case (λ y. word_of (accumulator_fields y)) c.in-Sach.is (of_selected 13 _ _ c.addressed-in-Sach.ensures)
 
 pub returns-in-Lack : goal.returns-in-Lack
 unfolding word_of accumulator_fields

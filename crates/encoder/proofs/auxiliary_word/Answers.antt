@@ -7,11 +7,11 @@ use Rattle.encoder.proofs.auxiliary_word.Goals as goal
 
 pub returns-in-Lar : goal.returns-in-Lar
 unfolding word_of auxiliary_fields
-returns-in-Lar c = by_case (λ y. word_of (auxiliary_fields y)) c.in-Lar.is (of_selected 6 _ _ c.selected.ensures)
+returns-in-Lar c = by_case (λ y. word_of (auxiliary_fields y)) c.in-Lar.is (of_selected 6 _ _ c.addressed.ensures)
 
 pub returns-in-Sar : goal.returns-in-Sar
 unfolding word_of auxiliary_fields
-returns-in-Sar c = by_case (λ y. word_of (auxiliary_fields y)) c.in-Sar.is (of_selected 14 _ _ c.selected-in-Sar.ensures)
+returns-in-Sar c = by_case (λ y. word_of (auxiliary_fields y)) c.in-Sar.is (of_selected 14 _ _ c.addressed-in-Sar.ensures)
 
 pub returns-in-Lark : goal.returns-in-Lark
 unfolding word_of auxiliary_fields
@@ -19,7 +19,7 @@ returns-in-Lark c = by_case (λ y. word_of (auxiliary_fields y)) c.in-Lark.is (c
 
 pub returns-in-Mar : goal.returns-in-Mar
 unfolding word_of auxiliary_fields
-returns-in-Mar c = by_case (λ y. word_of (auxiliary_fields y)) c.in-Mar.is (of_address 0x55 _ c.addressed.ensures)
+returns-in-Mar c = by_case (λ y. word_of (auxiliary_fields y)) c.in-Mar.is (of_address 0x55 _ c.addressed-in-Mar.ensures)
 
 pub returns-in-Adrk : goal.returns-in-Adrk
 unfolding word_of auxiliary_fields

@@ -9,8 +9,8 @@ returns-in-Dmov c = by_case (λ y. word_of (transfer_fields y)) c.in-Dmov.is (of
 
 pub returns-in-In : goal.returns-in-In
 unfolding word_of transfer_fields
-returns-in-In c = by_case (λ y. word_of (transfer_fields y)) c.in-In.is (of_shifted 8 _ _ c.shifted.ensures)
+returns-in-In c = by_case (λ y. word_of (transfer_fields y)) c.in-In.is (of_shifted 8 _ _ c.addressed-in-In.ensures)
 
 pub returns-in-Out : goal.returns-in-Out
 unfolding word_of transfer_fields
-returns-in-Out c = by_case (λ y. word_of (transfer_fields y)) c.in-Out.is (of_shifted 14 _ _ c.shifted-in-Out.ensures)
+returns-in-Out c = by_case (λ y. word_of (transfer_fields y)) c.in-Out.is (of_shifted 14 _ _ c.addressed-in-Out.ensures)

@@ -4,20 +4,20 @@ use Rattle.line_fields.specs.Facts.{Fields}
 use Rattle.line_fields.proofs.Cells.{cells_room, sent_room, newline_room, whole_put}
 use Rattle.line_fields.proofs.fitting.Fields.put_line.Goals as goal
 
-pub put_cells-cells-requires : goal.put_cells-cells-requires
-put_cells-cells-requires c = cells_room _ _ _ _ _ _ c.requires
+pub put_cells-requires : goal.put_cells-requires
+put_cells-requires c = cells_room _ _ _ _ _ _ c.requires
 
-pub put_words-sent-requires : goal.put_words-sent-requires
-put_words-sent-requires c =
+pub word_fields-requires : goal.word_fields-requires
+word_fields-requires c =
     let e : c.self.inside.words.now ≡ c.args.self.now.words = ap (λ (f : Fields). f.words) c.self.view_is in
-    rw e (sent_room _ _ _ _ _ _ c.requires c.put_cells-cells.ensures)
+    rw e (sent_room _ _ _ _ _ _ c.requires c.put_cells.ensures)
 
-pub put_byte-requires : goal.put_byte-requires
-put_byte-requires c =
+pub byte-requires : goal.byte-requires
+byte-requires c =
     let e : c.self.inside.words.now ≡ c.args.self.now.words = ap (λ (f : Fields). f.words) c.self.view_is in
-    newline_room _ _ _ _ _ _ c.requires c.put_cells-cells.ensures (rw e at c.put_words-sent.ensures)
+    newline_room _ _ _ _ _ _ c.requires c.put_cells.ensures (rw e at c.word_fields.ensures)
 
 pub returns : goal.returns
 returns c =
     let e : c.self.inside.words.now ≡ c.args.self.now.words = ap (λ (f : Fields). f.words) c.self.view_is in
-    whole_put _ _ _ _ _ _ c.requires c.put_cells-cells.ensures (rw e at c.put_words-sent.ensures) c.put_byte.ensures
+    whole_put _ _ _ _ _ _ c.requires c.put_cells.ensures (rw e at c.word_fields.ensures) c.byte.ensures
