@@ -60,7 +60,28 @@ impl fmt::Display for Shown {
     }
 }
 
-// The slices that a file is set up in.
+// A place in the slices that a file is set up in: the first digit of its number is its slice, the others its word.
+#[derive(Clone, Copy, Debug)]
+enum Place {
+    Data(usize),
+    Rom(usize),
+    Input(usize),
+}
+
+impl Place {
+    // None of any other first digit.
+    fn of(number: u16) -> Option<Place> {
+        let at = usize::from(number % 0x1000);
+        match number / 0x1000 {
+            0 => Some(Place::Data(at)),
+            1 => Some(Place::Rom(at)),
+            2 => Some(Place::Input(at)),
+            _ => None,
+        }
+    }
+}
+
+// Those slices.
 #[derive(Clone, Copy, Debug)]
 struct Slices<'a> {
     rom: &'a [u16],
@@ -69,14 +90,13 @@ struct Slices<'a> {
 }
 
 impl Slices<'_> {
-    // The word of a place: its first digit is its slice.
-    fn word(&self, place: u16) -> u64 {
-        let at = usize::from(place % 0x1000);
-        match place / 0x1000 {
-            0 => word_at(self.data, at),
-            1 => word_at(self.rom, at),
-            2 => word_at(self.input, at),
-            _ => 0,
+    // The word of a place; no place shows 0.
+    fn word(&self, place: Option<Place>) -> u64 {
+        match place {
+            Some(Place::Data(at)) => word_at(self.data, at),
+            Some(Place::Rom(at)) => word_at(self.rom, at),
+            Some(Place::Input(at)) => word_at(self.input, at),
+            None => 0,
         }
     }
 }
@@ -102,6 +122,10 @@ fn next_number(reader: &mut impl Read) -> io::Result<u16> {
             .iter()
             .fold(0, |n, &byte| n % 0x1000 * 16 + digit(byte)),
     )
+}
+
+fn next_place(reader: &mut impl Read) -> io::Result<Option<Place>> {
+    Ok(Place::of(next_number(reader)?))
 }
 
 fn next_flag(reader: &mut impl Read) -> io::Result<u8> {
@@ -202,8 +226,8 @@ fn set_up_case(reader: &mut impl Read) -> io::Result<Shown> {
     };
     Ok(Shown {
         answer: number(answer),
-        first: slices.word(next_number(reader)?),
-        second: slices.word(next_number(reader)?),
+        first: slices.word(next_place(reader)?),
+        second: slices.word(next_place(reader)?),
     })
 }
 

@@ -28,21 +28,61 @@ enum Kind {
     RunWithResults,
     Print,
     End,
-    // Any other letter: nothing is done.
-    Unknown,
 }
 
-impl From<u8> for Kind {
-    fn from(letter: u8) -> Kind {
+impl Kind {
+    // None of any other letter: nothing is done.
+    fn of(letter: u8) -> Option<Kind> {
         match letter {
-            b'N' => Kind::Name,
-            b'S' => Kind::Store,
-            b'T' => Kind::Step,
-            b'R' => Kind::Run,
-            b'W' => Kind::RunWithResults,
-            b'P' => Kind::Print,
-            b'E' => Kind::End,
-            _ => Kind::Unknown,
+            b'N' => Some(Kind::Name),
+            b'S' => Some(Kind::Store),
+            b'T' => Some(Kind::Step),
+            b'R' => Some(Kind::Run),
+            b'W' => Some(Kind::RunWithResults),
+            b'P' => Some(Kind::Print),
+            b'E' => Some(Kind::End),
+            _ => None,
+        }
+    }
+}
+
+// What a place lies in: a memory, the input words, the words sent, the cells; the last answer, and what the last run counted.
+#[derive(Clone, Copy, Debug, PartialEq, Eq)]
+enum Bank {
+    Data,
+    Rom,
+    Input,
+    Output,
+    Cells,
+    Answer,
+    Steps,
+    Reads,
+    Writes,
+}
+
+// A place as make.py numbers it: the first digit is its bank, the others the index in it.
+#[derive(Clone, Copy, Debug)]
+struct Place {
+    bank: Bank,
+    at: usize,
+}
+
+impl From<u32> for Place {
+    fn from(number: u32) -> Place {
+        let bank = match number / 0x1000 {
+            0 => Bank::Data,
+            1 => Bank::Rom,
+            2 => Bank::Input,
+            3 => Bank::Output,
+            4 => Bank::Cells,
+            5 => Bank::Answer,
+            6 => Bank::Steps,
+            7 => Bank::Reads,
+            _ => Bank::Writes,
+        };
+        Place {
+            bank,
+            at: (number % 0x1000) as usize,
         }
     }
 }
@@ -50,16 +90,16 @@ impl From<u8> for Kind {
 // What one line asks for.
 #[derive(Clone, Copy, Debug)]
 struct Line {
-    kind: Kind,
-    place: u32,
+    kind: Option<Kind>,
+    place: Place,
     value: u32,
 }
 
 impl From<&[u8; 32]> for Line {
     fn from(text: &[u8; 32]) -> Line {
         Line {
-            kind: Kind::from(text[0]),
-            place: number(&text[2..6]),
+            kind: Kind::of(text[0]),
+            place: Place::from(number(&text[2..6])),
             value: number(&text[7..15]),
         }
     }
@@ -181,31 +221,31 @@ impl Board {
         };
     }
 
-    // The places of make.py, by their first digit: data memory, program memory, input words, words sent, cells.
-    fn store(&mut self, place: u32, value: u32) {
-        let at = (place % 0x1000) as usize;
+    // What is put in a place that is only shown goes to the cells.
+    fn store(&mut self, place: Place, value: u32) {
         let word = low_word(value);
-        match place / 0x1000 {
-            0 => put(&mut self.data, at, word),
-            1 => put(&mut self.rom, at, word),
-            2 => put(&mut self.input, at, word),
-            3 => put(&mut self.output, at, word),
-            _ => put(&mut self.cells, at, value),
+        match place.bank {
+            Bank::Data => put(&mut self.data, place.at, word),
+            Bank::Rom => put(&mut self.rom, place.at, word),
+            Bank::Input => put(&mut self.input, place.at, word),
+            Bank::Output => put(&mut self.output, place.at, word),
+            Bank::Cells | Bank::Answer | Bank::Steps | Bank::Reads | Bank::Writes => {
+                put(&mut self.cells, place.at, value)
+            }
         }
     }
 
-    // What stands in a place; behind the cells, the last answer and what the last run counted.
-    fn shown(&self, place: u32) -> u32 {
-        let at = (place % 0x1000) as usize;
-        match place / 0x1000 {
-            0 => word_at(&self.data, at),
-            1 => word_at(&self.rom, at),
-            3 => word_at(&self.output, at),
-            4 => self.cells.get(at).copied().unwrap_or(0),
-            5 => self.last.answer,
-            6 => self.last.steps,
-            7 => self.last.reads,
-            _ => self.last.writes,
+    // A place of the input words shows the writes.
+    fn shown(&self, place: Place) -> u32 {
+        match place.bank {
+            Bank::Data => word_at(&self.data, place.at),
+            Bank::Rom => word_at(&self.rom, place.at),
+            Bank::Output => word_at(&self.output, place.at),
+            Bank::Cells => self.cells.get(place.at).copied().unwrap_or(0),
+            Bank::Answer => self.last.answer,
+            Bank::Steps => self.last.steps,
+            Bank::Reads => self.last.reads,
+            Bank::Input | Bank::Writes => self.last.writes,
         }
     }
 }
@@ -218,22 +258,22 @@ fn print_hex(rt: &impl Print, n: u32, width: u32) -> io::Result<()> {
 
 fn act(rt: &impl Print, board: &mut Board, line: Line) -> io::Result<()> {
     match line.kind {
-        Kind::Store => board.store(line.place, line.value),
-        Kind::Step => board.step(),
-        Kind::Run => board.run(low_word(line.value)),
-        Kind::RunWithResults => board.run_with_results(low_word(line.value)),
-        Kind::Print => print_hex(rt, board.shown(line.place), line.value)?,
-        Kind::Name | Kind::End | Kind::Unknown => {}
+        Some(Kind::Store) => board.store(line.place, line.value),
+        Some(Kind::Step) => board.step(),
+        Some(Kind::Run) => board.run(low_word(line.value)),
+        Some(Kind::RunWithResults) => board.run_with_results(low_word(line.value)),
+        Some(Kind::Print) => print_hex(rt, board.shown(line.place), line.value)?,
+        Some(Kind::Name | Kind::End) | None => {}
     }
     Ok(())
 }
 
 // The line's label: a case's name, or a cell's.
-fn print_label(rt: &impl Print, kind: Kind, text: &[u8; 32]) -> io::Result<()> {
+fn print_label(rt: &impl Print, kind: Option<Kind>, text: &[u8; 32]) -> io::Result<()> {
     match kind {
-        Kind::Name => rt.write_all(&text[16..31]),
-        Kind::Print => rt.write_all(&text[16..23]),
-        Kind::End => rt.write_all(b"\n"),
+        Some(Kind::Name) => rt.write_all(&text[16..31]),
+        Some(Kind::Print) => rt.write_all(&text[16..23]),
+        Some(Kind::End) => rt.write_all(b"\n"),
         _ => Ok(()),
     }
 }
@@ -254,7 +294,7 @@ fn case(rt: &impl Print, reader: &mut impl Read) -> io::Result<()> {
     let mut board = Board::reset();
     for _ in 0..LINES_MAX {
         match next_line(rt, reader)? {
-            Some(line) if line.kind != Kind::End => act(rt, &mut board, line)?,
+            Some(line) if line.kind != Some(Kind::End) => act(rt, &mut board, line)?,
             _ => break,
         }
     }
