@@ -58,7 +58,7 @@ pub fn numbers_of(bytes: &[u8]) -> EightNumbers
     }
 }
 
-// Each count is at most its limit.
+// Each count is at most its limit. Three numbers and no Head: the writer passes the lengths of its slices, which 16 bits may not hold.
 #[tactic(auto, unfolding(crate::specs::Files::counts_kept))]
 pub fn counts_kept(program_count: usize, data_count: usize, input_count: usize) -> bool
     ensures { result ≡ counts_kept program_count data_count input_count }

@@ -15,6 +15,7 @@ use slices::memories_fit;
 const DATA_START: u16 = 0x400;
 
 // The numbers of a file that these slices can be set up from, or why not: a file's 20, 21 and 22, then 2.
+#[tactic(auto, using(crate::specs::SetUpLaws::set_up_refused))]
 fn fitting(bytes: &[u8], rom: &[u16], data: &[u16], input: &[u16]) -> Result<EightNumbers, Refusal>
     ensures { result ≡ where_done (set_up_answer bytes.now (lent rom.now «data».now input.now)) (numbers_of bytes.now) }
 {
@@ -65,7 +66,8 @@ fn load_file(bytes: &[u8], n: EightNumbers, rom: &mut [u16], data: &mut [u16], i
     load_words(bytes, n.input_offset, input);
 }
 
-// Both memories and the input slice from a file. A refusal changes none of them.
+// Both memories and the input slice from a file. A refusal changes none of them. The slices come one by one, as the C interface lends them.
+#[tactic(auto, using(crate::specs::SetUpLaws::set_up_kept, crate::specs::SetUpLaws::set_up_stored, runfile::specs::FileLaws::given_done, runfile::specs::FileLaws::given_refused))]
 pub fn set_up(bytes: &[u8], rom: &mut [u16], data: &mut [u16], input: &mut [u16]) -> Answer
     ensures answered { result ≡ set_up_answer bytes.now (lent rom.old «data».old input.old) }
     ensures program_memory { rom.new ≡ (set_up bytes.now (lent rom.old «data».old input.old)).rom }

@@ -10,7 +10,7 @@ use answers::{Answer, Refusal};
 use runfile::numbers::{HEAD_BYTES, VERSION, counts_kept};
 use std::marker::Model;
 
-// How many bytes a file with these counts has.
+// How many bytes a file with these counts has. Three numbers and no Head: its callers, one of them C's writer, have three slices and no budget to pass.
 #[tactic(auto, unfolding(runfile::specs::Files::file_length))]
 pub fn file_length(program_count: u16, data_count: u16, input_count: u16) -> usize
     ensures { result ≡ file_length program_count data_count input_count }
@@ -22,6 +22,7 @@ pub fn file_length(program_count: u16, data_count: u16, input_count: u16) -> usi
 }
 
 // A word, low byte first.
+#[tactic(auto, using(crate::specs::WritingLaws::word_stored))]
 fn put_word(bytes: &mut [u8], at: usize, word: u16)
     requires { at + 1 < length bytes.old }
     ensures { bytes.new ≡ sets bytes.old at (bytes_of (word ∷ [])) }
@@ -61,6 +62,7 @@ impl<'a> Model for Contents<'a> {
 
 impl<'a> Contents<'a> {
     // Each list is within its limit.
+    #[tactic(auto, unfolding(runfile::specs::Files::contents_fit))]
     fn fit(&self) -> bool
         ensures { result ≡ contents_fit self.now }
     {

@@ -1,11 +1,8 @@
 use Rattle.std.specs.Prelude.{true, false}
-use Rattle.std.proofs.Common.{rules, sym, ◌∙◌}
+use Rattle.std.proofs.Common.{sym, ◌∙◌}
 use Rattle.runfile_setting_up.specs.SetUp.{lent}
-use Rattle.runfile_setting_up.specs.SetUpLaws.{set_up_refused, set_up_tested}
+use Rattle.runfile_setting_up.specs.SetUpLaws.{set_up_tested}
 use Rattle.runfile_setting_up.proofs.fitting.Goals as goal
-
-pub returns-in_err-n : goal.returns-in_err-n
-returns-in_err-n c = let h = set_up_refused _ (lent c.args.rom.now c.args.data.now c.args.input.now) (sym c.read.ensures ∙ c.in_err-n.was) in search (rules, h)
 
 pub returns-then-memories_fit-input : goal.returns-then-memories_fit-input
 returns-then-memories_fit-input c = set_up_tested _ (lent c.args.rom.now c.args.data.now c.args.input.now)
