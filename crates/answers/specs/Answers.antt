@@ -53,3 +53,8 @@ FileRules = Err Refusal.FileRules
 
 abbrev pub FileNoRoom : Answer
 FileNoRoom = Err Refusal.FileNoRoom
+
+-- what a call gives that answers so: a value where it is done, and otherwise the refusal
+abbrev pub where_done : {T : Type 0} → Answer → T → Result T Refusal
+where_done (Ok _) value = Ok value
+where_done (Err refusal) value = Err refusal

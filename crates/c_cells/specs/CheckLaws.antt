@@ -5,10 +5,10 @@ use Rattle.std.proofs.Common.{sym, ap, eqb-true, eq-eqb}
 use Rattle.machine.specs.declared.Machine.{Machine}
 use Rattle.machine.specs.Table.{cell_count}
 use Rattle.answers.specs.declared.Refusal.{Refusal}
-use Rattle.answers.specs.Answers.{Answer, Done, CellOutOfRange, SlicesUnfit}
+use Rattle.answers.specs.Answers.{where_done, Answer, Done, CellOutOfRange, SlicesUnfit}
 use Rattle.answers.specs.Numbers.{is_done}
 use Rattle.c_cells.specs.Cells.{cells_of, machine_from, machine_of}
-use Rattle.c_cells.specs.Checks.{within_limits, cells_answer, if_done, checked_machine, cells_after}
+use Rattle.c_cells.specs.Checks.{within_limits, cells_answer, checked_machine, cells_after}
 
 -- cells that pass both checks
 pub record CellsKept (cells : List ℕ) : Type 0 where
@@ -48,6 +48,6 @@ pub machine_passed : (cells : List ℕ) {m : Machine} → Ok m ≡ checked_machi
 unfolding checked_machine machine_in
 machine_passed cells {m} h = by (cells_answer cells) refl h
   where
-    by : (a : Answer) → cells_answer cells ≡ a → Ok m ≡ if_done a (machine_of cells) → (is_done (cells_answer cells) ≡ true) × (m ≡ machine_of cells)
+    by : (a : Answer) → cells_answer cells ≡ a → Ok m ≡ where_done a (machine_of cells) → (is_done (cells_answer cells) ≡ true) × (m ≡ machine_of cells)
     by (Ok tt) e h = (ap is_done e, ap (machine_in m) h)
     by (Err refusal) e h = absurd (false≢true (sym (ap is_ok h)))

@@ -3,7 +3,7 @@ use Rattle.std.specs.Prelude.{Result, Ok, Err, Bool, true, cond, ◌&&◌, List,
 use Rattle.machine.specs.declared.Machine.{Machine}
 use Rattle.machine.specs.Table.{Cell, cells, cell_count}
 use Rattle.answers.specs.declared.Refusal.{Refusal}
-use Rattle.answers.specs.Answers.{Answer}
+use Rattle.answers.specs.Answers.{Answer, where_done}
 use Rattle.answers.specs.Answers.{Done, CellOutOfRange, SlicesUnfit}
 use Rattle.c_cells.specs.Cells.{cells_of, machine_of}
 
@@ -31,14 +31,9 @@ cells_answer numbers =
     CellOutOfRange)
     SlicesUnfit
 
--- a machine where the answer is done, and else the refusal
-abbrev pub if_done : Answer → Machine → Result Machine Refusal
-if_done (Ok _) m = Ok m
-if_done (Err refusal) m = Err refusal
-
 -- the machine of cells that pass the checks
 unfoldable pub checked_machine : List ℕ → Result Machine Refusal
-checked_machine numbers = if_done (cells_answer numbers) (machine_of numbers)
+checked_machine numbers = where_done (cells_answer numbers) (machine_of numbers)
 
 -- the slice after a machine's cells were written to it
 unfoldable pub cells_after : List ℕ → Machine → List ℕ

@@ -13,7 +13,8 @@ use Rattle.answers.specs.declared.Refusal.{Refusal}
 use Rattle.answers.specs.Numbers.{is_done}
 use Rattle.runfile.specs.declared.numbers.EightNumbers.{EightNumbers}
 use Rattle.runfile.specs.declared.reading.Head.{Head}
-use Rattle.runfile.specs.Files.{Contents, head_words, file_of, file_length, counts_kept, numbers_of, rules_kept, read_answer, read_contents, sections_of, no_contents, where_done, counts_of, head_of}
+use Rattle.answers.specs.Answers.{where_done}
+use Rattle.runfile.specs.Files.{Contents, head_words, file_of, file_length, counts_kept, numbers_of, rules_kept, read_answer, read_contents, sections_of, no_contents, counts_of, head_of}
 use Rattle.runfile.specs.Facts.{CountsKept, RulesKept, Accepted}
 use Rattle.runfile.specs.WordLaws.{bytes_length, words_length}
 

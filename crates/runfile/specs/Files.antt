@@ -91,11 +91,6 @@ read_answer bytes =
     FileRules)
     FileVersion)
 
--- a value where the answer is done, and otherwise the refusal
-abbrev pub where_done : {T : Type 0} → Answer → T → Result T Refusal
-where_done (Ok _) value = Ok value
-where_done (Err refusal) value = Err refusal
-
 -- the three sections and the budget
 unfoldable pub sections_of : List ℕ → Contents
 sections_of bytes =

@@ -1,6 +1,7 @@
 // Reading a run file: its answer, its counts and its budget.
 ghost use Rattle.std.specs.Prelude.{◌≡◌};
-ghost use Rattle.runfile.specs.Files.{read_answer, read_contents, numbers_of, where_done, counts_of, head_of};
+ghost use Rattle.answers.specs.Answers.{where_done};
+ghost use Rattle.runfile.specs.Files.{read_answer, read_contents, numbers_of, counts_of, head_of};
 
 use crate::numbers::{EightNumbers, HEAD_BYTES, VERSION, numbers_of, rules_kept};
 use answers::{Answer, Refusal};

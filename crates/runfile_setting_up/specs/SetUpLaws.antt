@@ -15,7 +15,8 @@ use Rattle.board.specs.Slices.{memories_fit}
 use Rattle.board.specs.SliceFacts.{MemoriesFit}
 use Rattle.board.specs.SliceLaws.{memories_fit_lem}
 use Rattle.runfile.specs.declared.numbers.EightNumbers.{EightNumbers}
-use Rattle.runfile.specs.Files.{Contents, numbers_of, read_answer, read_contents, sections_of, where_done, words_at}
+use Rattle.answers.specs.Answers.{where_done}
+use Rattle.runfile.specs.Files.{Contents, numbers_of, read_answer, read_contents, sections_of, words_at}
 use Rattle.runfile.specs.WordLaws.{words_length}
 use Rattle.basic_laws.specs.Stores.{sets_whole}
 use Rattle.runfile.specs.FileLaws.{accepted, given_done, given_refused, read_done, section_lengths}

@@ -2,7 +2,8 @@
 #![tactic(auto)]
 
 ghost use Rattle.std.specs.Prelude.{◌≡◌, ◌+◌, ◌*◌, ◌≤◌, length};
-ghost use Rattle.runfile.specs.Files.{numbers_of, where_done, words_at, sections_of};
+ghost use Rattle.answers.specs.Answers.{where_done};
+ghost use Rattle.runfile.specs.Files.{numbers_of, words_at, sections_of};
 ghost use Rattle.runfile_setting_up.specs.SetUp.{lent, set_up_answer, memory_with, loaded, set_up};
 ghost use Rattle.runfile_setting_up.specs.SetUpFacts.{SetUpDone};
 
