@@ -21,6 +21,7 @@ pub fn digit(n: u32) -> u8
 pub fn decimal_length(n: u32) -> usize
     ensures { result ≡ length (decimal n) }
 {
+    // It divides and counts no index. `ilog10` refuses 0 and speaks of powers of 10: no plainer, and the laws `counted_*`, which must stand, would go unused.
     let mut rest = n;
     let mut places = 1;
     while 10 <= rest {

@@ -31,6 +31,7 @@ impl<'a> Fields<'a> {
     ghost use Rattle.line_fields.specs.Writing.{Fits, Wrote};
 
     // How many bytes a line has beside its words: the decimal fields, and 17 for PC, ACC, the spaces and the newline.
+    #[tactic(auto, using(line_digits::specs::DigitLaws::decimal_most))]
     fn cells_length(&self) -> usize
         ensures { result ≡ length (decimal self.now.answer) + length (decimal self.now.steps) + length (decimal self.now.ov) + 17 }
     {
@@ -38,6 +39,7 @@ impl<'a> Fields<'a> {
     }
 
     // The answer and the cells.
+    #[tactic(auto, using(crate::proofs::Cells::answer_room, crate::proofs::Cells::steps_room, crate::proofs::Cells::pc_room, crate::proofs::Cells::acc_room, crate::proofs::Cells::ov_room))]
     fn put_cells(&self, writer: &mut Writer<'_>)
         requires { Fits writer.old (cells_of self.now) }
         ensures { Wrote writer.old (cells_of self.now) writer.new }
@@ -50,6 +52,7 @@ impl<'a> Fields<'a> {
     }
 
     // The fields and the newline.
+    #[tactic(auto, using(crate::proofs::Cells::cells_room, crate::proofs::Cells::sent_room, crate::proofs::Cells::newline_room))]
     fn put_line(&self, writer: &mut Writer<'_>)
         requires { Fits writer.old (line_of_fields self.now) }
         ensures { Wrote writer.old (line_of_fields self.now) writer.new }

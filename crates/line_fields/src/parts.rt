@@ -39,6 +39,7 @@ impl<'a> Writer<'a> {
     }
 
     // The words sent.
+    #[tactic(auto, using(crate::specs::Writing::word_fits))]
     pub fn word_fields(&mut self, words: &[u16])
         requires { Fits self.old (word_fields words.now) }
         ensures { Wrote self.old (word_fields words.now) self.new }

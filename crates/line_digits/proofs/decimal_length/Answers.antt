@@ -1,16 +1,7 @@
 -- Not routine: what the loop keeps is that places and the digits of rest are one more than the digits of n, and that rest + places is at most n + 1, so that places cannot overflow.
-use Rattle.line_digits.specs.DigitLaws.{counted_none, counted_more, counted_all}
+use Rattle.line_digits.specs.DigitLaws.{counted_more, counted_all}
 use native.Mathlib.Omega.{arith}
 use Rattle.line_digits.proofs.decimal_length.Goals as goal
-
-pub loop-rest-init : goal.loop-rest-init
-loop-rest-init c = counted_none _
-
-pub overflow_add-places : goal.overflow_add-places
-overflow_add-places c = omega (arith, c.loop-rest.invariant.falls)
-
-pub loop-rest-smaller : goal.loop-rest-smaller
-loop-rest-smaller c = omega arith
 
 pub loop-rest-preserved : goal.loop-rest-preserved
 loop-rest-preserved c = counted_more c.loop-rest.invariant c.loop-rest-test.true

@@ -1,21 +1,8 @@
 -- Not routine: room for the whole is room for each part where the one before it ended, and the parts put down in turn make the whole.
 use Rattle.std.proofs.Common.{◌≡◌, ap}
 use Rattle.line_fields.specs.Facts.{Fields}
-use Rattle.line_fields.proofs.Cells.{cells_room, sent_room, newline_room, whole_put}
+use Rattle.line_fields.proofs.Cells.{whole_put}
 use Rattle.line_fields.proofs.fitting.Fields.put_line.Goals as goal
-
-pub put_cells-requires : goal.put_cells-requires
-put_cells-requires c = cells_room _ _ _ _ _ _ c.requires
-
-pub word_fields-requires : goal.word_fields-requires
-word_fields-requires c =
-    let e : c.self.inside.words.now ≡ c.args.self.now.words = ap (λ (f : Fields). f.words) c.self.view_is in
-    rw e (sent_room _ _ _ _ _ _ c.requires c.put_cells.ensures)
-
-pub byte-requires : goal.byte-requires
-byte-requires c =
-    let e : c.self.inside.words.now ≡ c.args.self.now.words = ap (λ (f : Fields). f.words) c.self.view_is in
-    newline_room _ _ _ _ _ _ c.requires c.put_cells.ensures (rw e at c.word_fields.ensures)
 
 pub returns : goal.returns
 returns c =
