@@ -1,6 +1,6 @@
 -- A promise about numbers is a promise about answers: no two answers share a number.
 use Rattle.std.specs.Prelude.{◌≡◌, refl, Ok, Err, Bool, true, cond, false, not, List, [], ◌∷◌, ℕ, ◌<◌, eqb, ltb}
-use Rattle.std.proofs.Common.{sym, ap, ◌∙◌, eqb-true, eq-eqb, ltb-true}
+use Rattle.std.proofs.Common.{sym, ap, ◌∙◌, ltb-true}
 use Rattle.std.proofs.lemmas.Bool.{false≢true}
 use Rattle.answers.specs.Answers.{Answer}
 use Rattle.answers.specs.declared.Refusal.{Refusal}

@@ -1,5 +1,5 @@
 -- The checks of a slice of cells: its length (2), then the range of each cell (1).
-use Rattle.std.specs.Prelude.{Result, Ok, Err, Bool, true, cond, ◌&&◌, List, [], ◌∷◌, ◌++◌, ℕ, zero, suc, leb, eqb, length, get_or, replicate}
+use Rattle.std.specs.Prelude.{Result, Bool, true, cond, ◌&&◌, List, [], ◌∷◌, ◌++◌, ℕ, zero, suc, leb, eqb, length, get_or, replicate}
 use Rattle.machine.specs.declared.Machine.{Machine}
 use Rattle.machine.specs.Table.{Cell, cells, cell_count}
 use Rattle.answers.specs.declared.Refusal.{Refusal}

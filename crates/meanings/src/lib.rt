@@ -17,7 +17,7 @@ const BASE_PAGES: u8 = 75;
 
 const PAGES: u8 = 133;
 
-// Bits 6 to 4 of an indirect operand (Table 4-1). No TryFrom: the definition `modification_of` refuses no number, and gives None for 3 too.
+// Bits 6 to 4 of an indirect operand (Table 4-1). No TryFrom, since the definition refuses no number and gives None for 3 too, and no From, which would lose the other bits.
 #[tactic(auto, unfolding(instructions::specs::Encoding::modification_of))]
 fn modification_of(bits: u8) -> Modification
     ensures { result ≡ modification_of bits }
