@@ -36,7 +36,7 @@ struct Place {
     count: usize,
 }
 
-// Where the window of an address stands, or why none is shown.
+// Where the window of an address stands, or why none is shown. Both memories by themselves, as `window` is lent them.
 #[tactic(auto, unfolding(crate::specs::Shown::place_of), using(crate::specs::CallLaws::past_rom))]
 fn place_of<'a>(m: Machine, address: u16, rom: &'a [u16], data: &'a [u16]) -> Result<Place, Refusal>
     ensures { placed_by result ≡ window_placed m address rom.now «data».now }

@@ -1,4 +1,5 @@
-// The exports of the library for C: each is `desktop`'s function of its name, with the same clauses (include/crowmitten.h).
+// The exports of the library for C: each is `desktop`'s function of its name, with the same clauses (include/crowmitten.h). No crate can use a static library,
+// so the functions that the programs call stand there.
 #![tactic(auto)]
 
 ghost use Rattle.std.specs.Prelude.{◌≡◌, length};

@@ -17,7 +17,7 @@ use refusals::is_program_absent;
 use steps::Pass;
 use traits::traits_of;
 
-// The second word where the instruction has two, else 0.
+// The second word where the instruction has two, else 0, as the definition has it.
 fn second_word(two: bool, cnf: u8, at: u16, lent: &Lent<'_>) -> u16
     ensures { result ≡ cond two (program_word cnf at lent.now.given.rom lent.now.«data») 0 }
 {

@@ -107,7 +107,7 @@ impl Machine {
     }
 }
 
-// The machine with a word pushed, in the place where it holds its stack.
+// The machine with a word pushed, in the place where it holds its stack: document 01 says so, and no struct update does.
 pub fn push_on(m: Machine, word: u16) -> Machine
     ensures { result ≡ push_on m word }
 {

@@ -47,6 +47,7 @@ pub fn keep(m: Machine) -> Effect
     }
 }
 
+// One function for each kind of store, as the definitions `stored`, `copied` and `sent` are: one over a `Store` would say no less at each call.
 #[inline(always)]
 pub fn store_word(m: Machine, word: u16) -> Effect
     ensures { result ≡ stored m word }

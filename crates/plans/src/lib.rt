@@ -23,7 +23,7 @@ use refusals::pass_refusal;
 use steps::{Outside, Pass};
 use stores::write_of;
 
-// The program word at an address, 0 where there is none.
+// The program word at an address, 0 where there is none; from both memories by themselves, as `region_window` is lent them.
 #[tactic(auto, unfolding(board::specs::Windows::program_word))]
 pub fn program_word<'a>(cnf: u8, at: u16, rom: &'a [u16], data: &'a [u16]) -> u16
     ensures { result ≡ program_word cnf at rom.now «data».now }

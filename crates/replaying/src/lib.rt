@@ -21,7 +21,7 @@ pub const FILE_BYTES: usize = 16401;
 // As many bytes hold every line (`line_within`).
 pub const LINE_BYTES: usize = 5145;
 
-// An accepted file, set up in fresh slices and run from reset: its line.
+// An accepted file, set up in fresh slices and run from reset: its line. The slices one by one, as `set_up` and `run` are lent them.
 fn replay_in(
     bytes: &[u8],
     budget: u16,
@@ -76,7 +76,7 @@ fn put_line(bytes: &[u8], line: &mut [u8]) -> usize
 }
 
 // What `replay` prints of the file whose first bytes these are, `count` of them read: the line, and its length. The sizes are in the types, so
-// that no program can lend less.
+// that no program can lend less; there is no heap here, so that `count` stands beside the file.
 pub fn replayed(file: &[u8; FILE_BYTES], count: usize, line: &mut [u8; LINE_BYTES]) -> usize
     ensures { (result ≡ length (replay_line (take count file.now))) × (line.new ≡ replay_line (take count file.now) ++ drop (length (replay_line (take count file.now))) line.old) }
 {
