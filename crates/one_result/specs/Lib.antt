@@ -8,3 +8,4 @@ pub mod Pages
 pub mod Steps
 pub mod Files
 pub mod Library
+pub mod Printing
