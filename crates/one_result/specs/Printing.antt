@@ -34,7 +34,7 @@ module _ (T1 T2 : RattleType) (L1 : Laws T1) (L2 : Laws T2) (G1 : ReadTrait.Ghos
       (λ r e. pair (G1.remaining e.0.now) (G2.contents e.1.0.now))
   print_replay κs a r r' e e' p q =
       same_pair (same (left_known bytes _ _ p.0 p.2.0) (left_known bytes _ _ q.0 q.2.0))
-          (same (line_known bytes held _ _ _ p.0 p.1 p.2.1) (line_known bytes held _ _ _ q.0 q.1 q.2.1))
+      (same (line_known bytes held _ _ _ p.0 p.1 p.2.1) (line_known bytes held _ _ _ q.0 q.1 q.2.1))
 
 abbrev pub Filled : List ℕ → ℕ → ℕ → List ℕ → Option (List ℕ) → Type 0
 Filled xs size n file end = (n ≡ length (take size xs)) × ((take n file ≡ take size xs) × (end ≡ Some (drop size xs)))
