@@ -51,7 +51,7 @@ impl From<Refusal> for u8 {
     }
 }
 
-// The number that the paper gives to an answer: 0 where no refusal is given.
+// The number that the paper gives to an answer: 0 where no refusal is given. No `From`, since `Result` is std's.
 pub fn number(answer: Answer) -> u8
     ensures { result ≡ number_of answer }
 {

@@ -8,8 +8,8 @@ ghost use Rattle.board.specs.Lent.{LentWords};
 
 use std::marker::Model;
 
-// Where a data address lies. One function, data_region, knows the ranges, and asks first for the one that frames lie in. Absent is one of the board's cases, and no
-// `Option`: `region_present`, `region_on_chip` and `access_outside` each tell all five apart.
+// Where a data address lies. One function, data_region, knows the ranges, and asks first for the one that frames lie in. Absent is a case of that definition beside
+// the four: an `Option` round them would nest each test.
 #[derive(Clone, Copy, Debug, PartialEq, Eq)]
 pub enum Region {
     Absent,
@@ -19,7 +19,7 @@ pub enum Region {
     External,
 }
 
-// What the routine that finds a data word answers with: the word, and where it lies (document 02, request 7).
+// What the routine that finds a data word answers with: the word, 0 where there is none (`found_at`), and where it lies (document 02, request 7).
 #[derive(Clone, Copy, Debug, PartialEq, Eq)]
 pub struct Found {
     pub word: u16,

@@ -60,7 +60,8 @@ impl fmt::Display for Shown {
     }
 }
 
-// A place in the slices that a file is set up in: the first digit of its number is its slice, the others its word.
+// A place in the slices that a file is set up in: the first digit of its number is its slice, the others its word. Here and in `Kind` no `TryFrom`, since None is
+// no error.
 #[derive(Clone, Copy, Debug)]
 enum Place {
     Data(usize),

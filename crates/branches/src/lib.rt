@@ -1,8 +1,9 @@
 // The pages of branches, CALL and RET, by value.
 #![tactic(auto)]
 
-ghost use Rattle.std.specs.Prelude.{◌≡◌};
-ghost use Rattle.pages.specs.BranchesPages.{branched, B, BANZ, BZ, BNZ, BGZ, BGEZ, BLZ, BLEZ, BV, BNV, CALL, RET};
+ghost use Rattle.std.specs.Prelude.{◌≡◌, eqb};
+ghost use Rattle.machine.specs.Cells.{with_ov};
+ghost use Rattle.pages.specs.BranchesPages.{branched, B, BANZ, BZ, BNZ, BGZ, BGEZ, BLZ, BLEZ, CALL, RET};
 ghost use Rattle.pages.specs.BranchesRule.{branches_rule};
 
 use addressing::register_of;
@@ -74,18 +75,11 @@ fn blez(pma: u16, m: Machine) -> Effect
     branch((m.acc == 0) | (2147483648 <= m.acc), pma, m)
 }
 
-#[tactic(auto, unfolding(pages::specs::BranchesPages::BV))]
-fn bv(pma: u16, m: Machine) -> Effect
-    ensures { result ≡ BV pma m }
+// BV and BNV: a branch where OV has this value, and OV is reset.
+fn branch_on_overflow(ov: u8, pma: u16, m: Machine) -> Effect
+    ensures { result ≡ branched (eqb m.ov ov) pma (with_ov m 0) }
 {
-    branch(m.ov == 1, pma, Machine { ov: 0, ..m })
-}
-
-#[tactic(auto, unfolding(pages::specs::BranchesPages::BNV))]
-fn bnv(pma: u16, m: Machine) -> Effect
-    ensures { result ≡ BNV pma m }
-{
-    branch(m.ov == 0, pma, Machine { ov: 0, ..m })
+    branch(m.ov == ov, pma, Machine { ov: 0, ..m })
 }
 
 #[tactic(auto, unfolding(pages::specs::BranchesPages::CALL))]
@@ -104,7 +98,7 @@ fn ret(m: Machine) -> Effect
 }
 
 // The rule of each case, with the machine before and after the operand's modification and the second word.
-#[tactic(auto, unfolding(pages::specs::BranchesRule::branches_rule))]
+#[tactic(auto, unfolding(pages::specs::BranchesRule::branches_rule, pages::specs::BranchesPages::BV, pages::specs::BranchesPages::BNV))]
 pub fn rule(i: Branches, before: Machine, m: Machine, pma: u16) -> Effect
     ensures { result ≡ branches_rule i before m pma }
 {
@@ -117,8 +111,8 @@ pub fn rule(i: Branches, before: Machine, m: Machine, pma: u16) -> Effect
         Branches::Bgez(_) => bgez(pma, m),
         Branches::Blz(_) => blz(pma, m),
         Branches::Blez(_) => blez(pma, m),
-        Branches::Bv(_) => bv(pma, m),
-        Branches::Bnv(_) => bnv(pma, m),
+        Branches::Bv(_) => branch_on_overflow(1, pma, m),
+        Branches::Bnv(_) => branch_on_overflow(0, pma, m),
         Branches::Call(_) => call(pma, m),
         Branches::Ret => ret(m),
     }

@@ -11,7 +11,8 @@ const LONG_MAX: u32 = 0xFFFFFFFF;
 
 const WORD_MAX: u32 = 0xFFFF;
 
-// The largest number that each cell may hold, in the cells' order: the machine's own limits, and what 16 and 32 bits hold.
+// The largest number that each cell may hold, in the cells' order: the machine's own limits, and what 16 and 32 bits hold. By `as`, since a constant can call
+// no `From`.
 const LIMITS: [u32; CELLS] = [
     LONG_MAX,
     LONG_MAX,

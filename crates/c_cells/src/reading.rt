@@ -16,7 +16,7 @@ fn word(cell: u32) -> u16
     (cell % 65536) as u16
 }
 
-// The low 8 bits of a cell.
+// The low 8 bits of a cell. Beside `word` for 16: one function of the size would return more than fits its cell.
 fn small(cell: u32) -> u8
     ensures { result ≡ cell % 2 ^ 8 }
 {
@@ -61,7 +61,7 @@ fn machine_from(cells: &[u32; CELLS]) -> Machine
     }
 }
 
-// The machine that the cells are of. Cells that pass the checks lose nothing by it.
+// The machine that the cells are of; no `From`, since both types are of other crates. Cells that pass the checks lose nothing by it.
 #[tactic(auto, unfolding(crate::specs::Cells::machine_of))]
 pub fn machine_of(cells: &[u32]) -> Machine
     ensures { result ≡ machine_of cells.now }

@@ -1,4 +1,4 @@
-// Run files: reading, setting up, writing.
+// Run files: reading, setting up, writing. Each passes on to a crate beside the emulator, where its must-fail edits load less.
 ghost use Rattle.std.specs.Prelude.{◌≡◌, length};
 ghost use Rattle.answers.specs.Numbers.{number_of};
 ghost use Rattle.runfile.specs.Files.{read_answer, read_contents};

@@ -105,7 +105,7 @@ impl From<&[u8; 32]> for Line {
     }
 }
 
-// By hand, since what is no hexadecimal digit counts as some digit: every line is read.
+// By hand, since what is no hexadecimal digit counts as some digit: every line is read. board_examples has one of 16 bits.
 fn digit(byte: u8) -> u32
     ensures { result < 16 }
 {

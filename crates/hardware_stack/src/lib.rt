@@ -37,14 +37,14 @@ impl Stack {
         self.words[0]
     }
 
-    // A push on a stack that is lent.
+    // A push on a stack that is lent, beside `pushed`: document 01 has it in the place where the machine holds the stack.
     pub fn push(&mut self, word: u16)
         ensures { self.new ≡ push_of self.old word }
     {
         *self = self.pushed(word);
     }
 
-    // A pop from a stack that is lent, and the word.
+    // A pop from a stack that is lent, and the word; beside `popped`, as `push`.
     pub fn pop(&mut self) -> u16
         ensures { (result ≡ top_of self.old) × (self.new ≡ pop_of self.old) }
     {

@@ -7,7 +7,7 @@ ghost use Rattle.machine.specs.Stack.{push_on, pop_on};
 
 use hardware_stack::Stack;
 
-// The cells of document 01, "The cells of the machine". Flags and pointers are numbers, so that check 1 can find one out of its range.
+// The cells of document 01, "The cells of the machine". Flags and pointers are numbers, so that check 1, `in_range`, can find one out of its range.
 #[derive(Clone, Copy, Debug, PartialEq, Eq)]
 pub struct Machine {
     pub stack: Stack,

@@ -41,6 +41,7 @@ fn next_of(low: u8) -> Option<u8>
     (low / 8 % 2 == 1).then_some(low % 8)
 }
 
+// No `From` of a byte, here and below: it would lose bit 7.
 #[tactic(auto, unfolding(instructions::specs::Encoding::indirect_of))]
 fn indirect_of(low: u8) -> Indirect
     ensures { result ≡ indirect_of low }

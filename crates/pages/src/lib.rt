@@ -4,7 +4,7 @@
 use machine::Machine;
 use operands::Address;
 
-// Whether the addressed data word is read, written, or not touched. Not an `Option`: each match asks for the three cases side by side.
+// Whether the addressed data word is read, written, or not touched. Not an `Option`: `find_operand` and `outside_by` ask for the three cases side by side.
 #[derive(Clone, Copy, Debug, PartialEq, Eq)]
 pub enum Access {
     None,
@@ -12,7 +12,7 @@ pub enum Access {
     Writes,
 }
 
-// The port that an instruction takes a word from or sends one to; three cases side by side, as `Access`.
+// The port that an instruction takes a word from or sends one to; three cases side by side, as `is_wrong_port` and `is_port_spent` ask.
 #[derive(Clone, Copy, Debug, PartialEq, Eq)]
 pub enum Port {
     None,

@@ -34,7 +34,7 @@ pub fn program_word<'a>(cnf: u8, at: u16, rom: &'a [u16], data: &'a [u16]) -> u1
         .unwrap_or(0)
 }
 
-// The words that a pass reads from the memories, the operand's found before.
+// The words that a pass reads from the memories, the operand's found before: pages' `Words` without the input's, which is read for an IN alone.
 #[derive(Clone, Copy, Debug, PartialEq, Eq)]
 struct MemoryWords {
     operand: u16,

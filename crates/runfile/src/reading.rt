@@ -61,7 +61,7 @@ pub fn read_answer(bytes: &[u8]) -> Answer
     Ok(())
 }
 
-// The counts and the budget of a file; 0 each where it is refused.
+// The counts and the budget of a file; 0 each where it is refused, and no `Result`: it could not fail before `read` stood beside it.
 pub fn head_of(bytes: &[u8]) -> Head
     ensures { result ≡ head_of (read_contents bytes.now) }
 {

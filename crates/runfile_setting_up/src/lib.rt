@@ -1,7 +1,7 @@
 // Setting up lent memories and an input slice from a run file.
 #![tactic(auto)]
 
-ghost use Rattle.std.specs.Prelude.{◌≡◌, ◌+◌, ◌*◌, ◌≤◌, length};
+ghost use Rattle.std.specs.Prelude.{◌≡◌, ◌+◌, ◌*◌, ◌≤◌, length, replicate};
 ghost use Rattle.answers.specs.Answers.{where_done};
 ghost use Rattle.runfile.specs.Files.{numbers_of, words_at, sections_of};
 ghost use Rattle.runfile_setting_up.specs.SetUp.{lent, set_up_answer, memory_with, loaded, set_up};
@@ -46,12 +46,20 @@ fn load_words(bytes: &[u8], at: u16, words: &mut [u16])
     }
 }
 
+// Every word of a memory becomes 0.
+fn clear(memory: &mut [u16])
+    requires { length memory.old ≡ 4096 }
+    ensures { memory.new ≡ replicate (length memory.old) 0 }
+{
+    memory.fill(0);
+}
+
 // A memory that holds 0 but for a run of words of a file, from an address on.
 fn fill_memory(bytes: &[u8], at: u16, count: u16, memory: &mut [u16], address: u16)
     requires { (at + 2 * count ≤ length bytes.now) × (address + count ≤ 4096) × (length memory.old ≡ 4096) }
     ensures { memory.new ≡ memory_with address (words_at bytes.now at count) }
 {
-    memory.fill(0);
+    clear(memory);
     let from = usize::from(address);
     load_words(bytes, at, &mut memory[from..from + usize::from(count)]);
 }

@@ -14,7 +14,7 @@ const PORT_WORDS_MAX: usize = 1024;
 
 const DATA_PAGE_WORDS: usize = 128;
 
-// Each of the two memories is of its size.
+// Each of the two memories is of its size; by themselves, as whoever asks was lent them.
 #[tactic(auto, unfolding(board::specs::Slices::memories_fit))]
 pub fn memories_fit(rom: &[u16], data: &[u16]) -> bool
     ensures { result ≡ memories_fit rom.now «data».now }

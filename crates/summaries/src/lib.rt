@@ -41,7 +41,7 @@ pub fn reset_summary(summary: &mut [u16]) -> Answer
 fn one_more(count: u16) -> u16
     ensures { result ≡ min 65535 (count + 1) }
 {
-    if count < 65535 { count + 1 } else { count }
+    count.saturating_add(1)
 }
 
 // The two numbers of a page. Whether both places are there is asked once, of the summary's length and the address: asked of each place by itself it takes

@@ -24,6 +24,7 @@ const CONSTANT: Traits = Traits {
     ..PLAIN
 };
 
+// From here on one for each definition of a page's traits (`reading`, `writing`, ..).
 fn reading_traits(a: Address) -> Traits
     ensures { result ≡ reading a }
 {

@@ -43,7 +43,7 @@ pub fn window_answer(m: Machine, at: u16, rom: &[u16], data: &[u16]) -> Answer
     Ok(())
 }
 
-// The fetch window, empty on a refusal.
+// The fetch window, empty on a refusal: a function that could not fail still cannot, and `window_answer` says why it is empty.
 #[tactic(auto, unfolding(board::specs::Windows::window_shown, board::specs::Windows::window_shown_start))]
 pub fn window<'a>(m: Machine, at: u16, rom: &'a [u16], data: &'a [u16]) -> &'a [u16]
     ensures result_value { result.now ≡ window_shown m at rom.now «data».now }
@@ -69,7 +69,7 @@ pub fn words_sent_answer(m: Machine, output: &[u16]) -> Answer
     Ok(())
 }
 
-// The words sent on port 1: the first part of the output slice, up to the cursor; empty on a refusal.
+// The words sent on port 1: the first part of the output slice, up to the cursor; empty on a refusal, as `window`.
 #[tactic(auto, unfolding(board::specs::Windows::words_sent))]
 pub fn words_sent<'a>(m: Machine, output: &'a [u16]) -> &'a [u16]
     ensures result_value { result.now ≡ words_sent m output.now }
