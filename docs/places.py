@@ -10,6 +10,9 @@ top = pathlib.Path(arguments[0] if arguments else ".")
 sources = sorted(top.glob("crates/*/src/**/*.rt"))
 
 
+FUNCTION = r'^ *(?:pub )?(?:extern "C" )?fn (\w+)(?:<[^(\n]*>)?\(((?:[^()]|\([^()]*\))*)\)[^{};]*?(?:\n *(?:requires|ensures)\b[^\n]*)*\s*\{\n'
+
+
 def lines():
     for path in sources:
         for number, line in enumerate(path.read_text().splitlines(), 1):
@@ -26,7 +29,7 @@ def functions():
     """Each function's place, name, parameters and body."""
     for path in sources:
         text = re.sub(r"//[^\n]*", "", path.read_text())
-        for found in re.finditer(r'^ *(?:pub )?(?:extern "C" )?fn (\w+)[^(]*\((.*?)\)[^{;]*?(?:\n\{| \{\n)', text, re.M | re.S):
+        for found in re.finditer(FUNCTION, text, re.M):
             end = re.search(r"^ {0,4}\}", text[found.end():], re.M)
             body = text[found.end(): found.end() + (end.start() if end else 0)]
             yield f"{path.relative_to(top)}: {found[1]}", found[1], re.sub(r"\s+", " ", found[2]), body

@@ -55,7 +55,8 @@ fn put_numbers(cells: &mut [u32], at: usize, numbers: &[u32])
     cells[at..at + numbers.len()].copy_from_slice(numbers);
 }
 
-// Eight cells of 16 bits, from a place on: each is widened, where `put_numbers` copies.
+// Eight cells of 16 bits, from a place on: each is widened, where `put_numbers` copies. By their places: of cells that an adapter
+// of `iter_mut` lends nothing is known afterwards.
 fn put_eight(cells: &mut [u32], at: usize, words: &[u16; 8])
     requires { at + 8 ≤ length cells.old }
     ensures { (cells.new ≡ sets cells.old at words.now) × (length words.now ≡ 8) }

@@ -11,7 +11,7 @@ ghost use Rattle.c_file_writing.specs.WriteCalls.{written_count};
 use answers::number_of;
 use runfile_writing::{file_length, write_file};
 
-// How many bytes the file of three lists has.
+// How many bytes the file of three lists has: what `Contents` of runfile_writing asks of itself, which is not exported.
 fn file_bytes(program: &[u16], data: &[u16], input: &[u16]) -> usize
     requires { CountsKept (length program.now) (length «data».now) (length input.now) }
     ensures { result ≡ file_length (length program.now) (length «data».now) (length input.now) }

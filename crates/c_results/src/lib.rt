@@ -9,6 +9,7 @@ use steps::Outside;
 // How many numbers the results are: CROWMITTEN_RESULTS of the header.
 pub const RESULTS: usize = 3;
 
+// As `summary_fits` of a summary: a length and a definition of its own.
 #[tactic(auto, unfolding(crate::specs::Results::results_fit))]
 pub fn results_fit(results: &[u32]) -> bool
     ensures { result ≡ results_fit results.now }

@@ -1,4 +1,4 @@
-// The words sent.
+// The words sent; passed on, as run files are.
 ghost use Rattle.std.specs.Prelude.{◌≡◌};
 ghost use Rattle.c_words_sent.specs.Sent.{counted, sent_called};
 

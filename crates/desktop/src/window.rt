@@ -1,4 +1,4 @@
-// The fetch window: in the program memory (1), in the data memory (2) or nowhere (0).
+// The fetch window: in the program memory (1), in the data memory (2) or nowhere (0); passed on, as run files are.
 ghost use Rattle.std.specs.Prelude.{◌≡◌};
 ghost use Rattle.c_window.specs.Shown.{placed, window_called};
 

@@ -25,7 +25,7 @@ pub struct EightNumbers {
     pub budget: u16,
 }
 
-// A byte of a slice, 0 where there is none.
+// A byte of a slice, 0 where there is none, as std says it in one line; so has the decoder of its table.
 fn byte_at(bytes: &[u8], at: usize) -> u8
     ensures { result ≡ get_or bytes.now at 0 }
 {

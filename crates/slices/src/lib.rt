@@ -59,19 +59,13 @@ pub fn part<'a>(words: &'a [u16], from: usize, to: usize) -> &'a [u16]
     &words[start..end]
 }
 
-// A word of a slice, 0 where there is none. By an index: on a step's path `get` takes more instructions (addressing, `register_of`).
-fn word_at(words: &[u16], at: u16) -> u16
-    ensures { result ≡ get_or words.now at 0 }
-{
-    let i = usize::from(at);
-    if i < words.len() { words[i] } else { 0 }
-}
-
-// The word that an IN finds. A dry port refuses the step before (11), so that nothing stores the 0 that stands for no word.
+// The word that an IN finds. A dry port refuses the step before (11), so that nothing stores the 0 that stands for no word. By an index: on a step's path `get`
+// takes more instructions (addressing, `register_of`).
 pub fn input_word(input: &[u16], cursor: u16) -> u16
     ensures { result ≡ get_or input.now cursor 0 }
 {
-    word_at(input, cursor)
+    let i = usize::from(cursor);
+    if i < input.len() { input[i] } else { 0 }
 }
 
 // A store that changes nothing where the slice has no such word. By an index: of a slice whose `get_mut` gives nothing the check does not know that it is unchanged.

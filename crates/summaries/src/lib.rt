@@ -17,6 +17,7 @@ const DATA_PAGE_WORDS: u32 = 128;
 
 const DATA_WORDS: u32 = 4096;
 
+// A length and a definition of its own, as `results_fit` of the library for C has.
 #[tactic(auto, unfolding(steps::specs::Summary::summary_fits))]
 pub fn summary_fits(summary: &[u16]) -> bool
     ensures { result ≡ summary_fits summary.now }
