@@ -38,13 +38,13 @@ pub struct Lent<'a> {
 impl<'a> Model for Lent<'a> {
     ghost Value = { LentWords };
 
-    ghost view = { λ l. record { given = given l.rom.now l.input.now; «data» = l.«data».now; output_length = l.output_length } };
+    ghost view = { λ l. record { given = given l.rom.now l.input.now; «data» = l.«data».now; output_length = l.output_length; rom_start = l.rom.ref_ptr; data_start = l.«data».ref_ptr; input_start = l.input.ref_ptr } };
 }
 
 impl<'a> Lent<'a> {
     #[inline(always)]
     pub fn new(rom: &'a [u16], data: &'a [u16], input: &'a [u16], output_length: usize) -> Lent<'a>
-        ensures { result ≡ record { given = given rom.now input.now; «data» = «data».now; output_length = output_length } }
+        ensures { result ≡ record { given = given rom.now input.now; «data» = «data».now; output_length = output_length; rom_start = rom.entry.ref_ptr; data_start = «data».entry.ref_ptr; input_start = input.entry.ref_ptr } }
     {
         Lent {
             rom,
@@ -56,21 +56,24 @@ impl<'a> Lent<'a> {
 
     #[inline(always)]
     pub fn rom(&self) -> &'a [u16]
-        ensures { result.now ≡ self.now.given.rom }
+        ensures words { result.now ≡ self.now.given.rom }
+        ensures place { result.ref_ptr ≡ self.now.rom_start }
     {
         self.rom
     }
 
     #[inline(always)]
     pub fn data(&self) -> &'a [u16]
-        ensures { result.now ≡ self.now.«data» }
+        ensures words { result.now ≡ self.now.«data» }
+        ensures place { result.ref_ptr ≡ self.now.data_start }
     {
         self.data
     }
 
     #[inline(always)]
     pub fn input(&self) -> &'a [u16]
-        ensures { result.now ≡ self.now.given.input }
+        ensures words { result.now ≡ self.now.given.input }
+        ensures place { result.ref_ptr ≡ self.now.input_start }
     {
         self.input
     }

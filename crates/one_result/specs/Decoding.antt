@@ -1,4 +1,5 @@
 -- One possible result of each exported function: decoding.
+use Rattle.operands.proofs.U8FromModification.from.Reads as ModificationBits
 use Rattle.meanings.proofs.meaning.Reads as Meaning
 use Rattle.kinds.proofs.kinds.Reads as Kinds
 use Rattle.kinds.proofs.is_operand.Reads as IsOperand
@@ -7,6 +8,9 @@ use Rattle.decoder.proofs.decode_by.Reads as DecodeBy
 use Rattle.decoder.proofs.decode.Reads as Decode
 use Rattle.encoder.proofs.encode.Reads as Encode
 use Rattle.one_result.specs.One.{OneResult, same}
+
+pub modification_bits : OneResult ModificationBits.Post
+modification_bits κs a r r' e e' p q = same p q
 
 pub meaning : OneResult Meaning.Post
 meaning κs a r r' e e' p q = same p q

@@ -6,6 +6,7 @@ use Rattle.runfile.proofs.numbers.rules_kept.Reads as RulesKept
 use Rattle.runfile.proofs.reading.read.Reads as Read
 use Rattle.runfile.proofs.reading.read_answer.Reads as ReadAnswer
 use Rattle.runfile.proofs.reading.head_of.Reads as HeadOf
+use Rattle.runfile.proofs.reading.HeadFromEightNumbers.from.Reads as HeadFromNumbers
 use Rattle.runfile_setting_up.proofs.set_up_answer.Reads as SetUpAnswer
 use Rattle.runfile_setting_up.proofs.set_up.Reads as SetUp
 use Rattle.runfile_writing.proofs.file_length.Reads as FileLength
@@ -39,6 +40,9 @@ read_answer κs a r r' e e' p q = same p q
 
 pub head_of : OneResult HeadOf.Post
 head_of κs a r r' e e' p q = same p q
+
+pub head_from_numbers : OneResult HeadFromNumbers.Post
+head_from_numbers κs a r r' e e' p q = same p q
 
 pub set_up_answer : OneResult SetUpAnswer.Post
 set_up_answer κs a r r' e e' p q = same p q

@@ -9,6 +9,7 @@ use Rattle.machine.proofs.Machine.in_range.Reads as InRange
 use Rattle.machine.proofs.push_on.Reads as PushOn
 use Rattle.machine.proofs.pop_on.Reads as PopOn
 use Rattle.answers.proofs.number.Reads as Number
+use Rattle.answers.proofs.U8FromRefusal.from.Reads as RefusalNumber
 use Rattle.passes.proofs.with_sum.Reads as WithSum
 use Rattle.passes.proofs.add_to_acc.Reads as AddToAcc
 use Rattle.passes.proofs.subtract_from_acc.Reads as SubtractFromAcc
@@ -83,6 +84,9 @@ pop_on κs a r r' e e' p q = same p q
 pub number : OneResult Number.Post
 number κs a r r' e e' p q = same p q
 
+pub refusal_number : OneResult RefusalNumber.Post
+refusal_number κs a r r' e e' p q = same p q
+
 pub with_sum : OneResult WithSum.Post
 with_sum κs a r r' e e' p q = same p q
 
@@ -131,15 +135,14 @@ address_of κs a r r' e e' p q = same p q
 pub lent_new : OneResult LentNew.Post
 lent_new κs a r r' e e' p q = same p q
 
--- of the slices that it gives back the words
-pub lent_rom : OneOutcome LentRom.Post (λ r e. r.now)
-lent_rom κs a r r' e e' p q = same p q
+pub lent_rom : OnePart LentRom.Post
+lent_rom κs a r r' e e' p q = same_pair (same p.0 q.0) (same p.1 q.1)
 
-pub lent_data : OneOutcome LentData.Post (λ r e. r.now)
-lent_data κs a r r' e e' p q = same p q
+pub lent_data : OnePart LentData.Post
+lent_data κs a r r' e e' p q = same_pair (same p.0 q.0) (same p.1 q.1)
 
-pub lent_input : OneOutcome LentInput.Post (λ r e. r.now)
-lent_input κs a r r' e e' p q = same p q
+pub lent_input : OnePart LentInput.Post
+lent_input κs a r r' e e' p q = same_pair (same p.0 q.0) (same p.1 q.1)
 
 pub lent_output_length : OneResult LentOutputLength.Post
 lent_output_length κs a r r' e e' p q = same p q
