@@ -2,8 +2,8 @@
 # exported functions and the theorems named there rest on.
 #
 # A theorem is named in backquotes, in a column "theorem" or before a "(crates/..)" in the text; what a column "function" names must be there, too. A
-# contract or a law needs what its statement names, a definition what its body names besides, a declared type what its fields name. What is needed is
-# followed to its end.
+# contract or a law needs what its statement names, a method's contract its type besides, a definition what its body names besides, a declared type what its
+# fields name and what a clause sees of it. What is needed is followed to its end.
 
 # ---- texts and names
 
@@ -137,7 +137,7 @@ FILENAME ~ /\.antt$/ {
 FILENAME ~ /\.rt$/ {
     text = $0
     crate = crate_at(FILENAME)
-    if (text ~ /^ghost use /) { sub(/^ghost use /, "", text); import(FILENAME, text); next }
+    if (text ~ /^ *ghost use /) { sub(/^ *ghost use /, "", text); import(FILENAME, text); next }
     if (text ~ /^use / || rust_use != "") {
         rust_use = rust_use text
         if (text ~ /;/) { import_types(FILENAME, rust_use, crate); rust_use = "" }
@@ -145,6 +145,7 @@ FILENAME ~ /\.rt$/ {
     }
     if (text ~ /^ *\/\//) { comments++; next }
     if (text ~ /^ *#\[/) next
+    if (text ~ /^ *$/) { comments = 0; next }
     if (text ~ /^mod /) is_private["crates/" crate "/src/" name_after("^mod ", text) ".rt"] = 1
     if (text ~ /^(pub )?(struct|enum) /) {
         name = name_after("^(pub )?(struct|enum) ", text)
@@ -153,9 +154,23 @@ FILENAME ~ /\.rt$/ {
         file_of[current] = FILENAME
         lines[current] = comments
         types[FILENAME, ++type_count[FILENAME]] = current
+        is_hidden[current] = (text !~ /^pub /)
+    } else if (text ~ /^impl(<[^>]*>)? Model for /) {
+        # what a clause sees of a value of the type
+        current = "type " crate " " name_after("^impl(<[^>]*>)? Model for ", text)
+        lines[current] += comments
+    } else if (text ~ /^impl(<[^>]*>)? From<.* for /) {
+        conversion = text
+    } else if (conversion != "") {
+        if (text ~ /^ *ghost /) convert(crate, conversion, text)
+        if (text ~ /^}/) conversion = ""
+        text = ""
+    } else if (text ~ /^impl/) {
+        self_type = "type " crate " " name_after("^impl(<[^>]*>)? ", text)
     } else if (text ~ /^ *pub ([A-Za-z"]+ )*fn /) {
         name = name_after("^.*fn ", text)
         current = "contract " FILENAME " " name
+        if (text ~ /^ /) type_of[current] = self_type
         file_of[current] = FILENAME
         contracts[name] = contracts[name] "\n" current
         functions[++function_count] = current
@@ -171,6 +186,18 @@ FILENAME ~ /\.rt$/ {
     # a type ends with its bracket, a contract where the body begins
     if (text ~ /^}/ || (current ~ /^contract/ && text ~ /\{$/)) current = ""
     next
+}
+
+# The clause of a conversion `impl From<A> for B` is a ghost member of it. A type that is not exported has no conversion that is.
+function convert(crate, head, text, from, to, node) {
+    from = name_after("^.* From<", head)
+    to = name_after("^.* for ", head)
+    if (is_hidden["type " crate " " from] || is_hidden["type " crate " " to]) return
+    node = "contract " FILENAME " " from " " to
+    file_of[node] = FILENAME
+    sub(/^ *ghost [a-z_]+ = /, "", text)
+    statement[node] = statement[node] " " text
+    functions[++function_count] = node
 }
 
 # docs/CLAIMS.md, without the table itself. A name is looked for first in the crates that stand beside it.
@@ -236,6 +263,7 @@ function meant(file, name, from) {
 }
 
 function follow(what, parts, n, i) {
+    if (what in type_of) need(type_of[what])
     n = split(names(statement[what] (is_law[what] ? "" : body[what])), parts, " ")
     for (i = 1; i <= n; i++) need(meant(file_of[what], parts[i]))
 }
