@@ -104,7 +104,7 @@ fn rest_refusal(
 }
 
 // The first of the last rows of the order that holds, for an operand in this region. It asks for the slices' lengths alone, and so is lent no slice.
-#[tactic(auto, using(steps::proofs::RefusalLaws::pass_first))]
+#[tactic(auto, unfolding(steps::specs::Refusals::access_rows), using(steps::proofs::RefusalLaws::pass_first))]
 pub fn pass_refusal(
     t: Traits,
     region: Region,
