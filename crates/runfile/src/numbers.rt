@@ -36,9 +36,15 @@ fn byte_at(bytes: &[u8], at: usize) -> u8
 pub fn word_at(bytes: &[u8], at: usize) -> u16
     ensures { result ≡ word_at bytes.now at }
 {
+    if bytes.len() <= at {
+        return 0;
+    }
+    // The two cases apart: the compiler then jumps once less for each word of a file that is set up.
     let low = byte_at(bytes, at);
-    let high = byte_at(bytes, at.saturating_add(1));
-    u16::from_le_bytes([low, high])
+    match bytes.get(at + 1) {
+        Some(&high) => u16::from_le_bytes([low, high]),
+        None => u16::from(low),
+    }
 }
 
 // The eight numbers at the start of some bytes.
