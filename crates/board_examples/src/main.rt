@@ -158,14 +158,14 @@ fn print_label(rt: &impl Print, reader: &mut impl Read) -> io::Result<()> {
     rt.write_all(&text[..count])
 }
 
-// The words at both ends of ROM are 11 and 12, of B0 13 and 14.
+// The words at both ends of ROM are 11 and 12, of B0 13 and 14. Here and below the memories come first: after a line is read they would be filled twice.
 fn window_case(reader: &mut impl Read) -> io::Result<Shown> {
+    let mut rom = [0; 4096];
+    let mut data = [0; 4096];
     let mut m = Machine::reset();
     m.cnf = next_flag(reader)?;
     m.arp = next_flag(reader)?;
     let at = next_number(reader)?;
-    let mut rom = [0; 4096];
-    let mut data = [0; 4096];
     rom[0] = 11;
     rom[4095] = 12;
     data[0x200] = 13;
@@ -211,12 +211,12 @@ fn write_case(reader: &mut impl Read) -> io::Result<Shown> {
 
 // Memories and input hold 65,535 everywhere before.
 fn set_up_case(reader: &mut impl Read) -> io::Result<Shown> {
-    let mut file = [0; 24];
-    put_file(&mut file);
-    let count = next_count(reader, file.len())?;
     let mut rom = [65535; 4096];
     let mut data = [65535; 4096];
     let mut input = [65535; 2];
+    let mut file = [0; 24];
+    put_file(&mut file);
+    let count = next_count(reader, file.len())?;
     let lent = next_count(reader, input.len())?;
     let input = &mut input[..lent];
     let answer = runfile_setting_up::set_up(&file[..count], &mut rom, &mut data, input);

@@ -155,20 +155,6 @@ struct Board {
 }
 
 impl Board {
-    // After reset, with memories that are all 0.
-    fn reset() -> Board {
-        let mut cells = [0; CELLS];
-        crowmitten_reset(&mut cells);
-        Board {
-            cells,
-            rom: [0; 4096],
-            data: [0; 4096],
-            input: [0; 4],
-            output: [0; 4],
-            last: Run::default(),
-        }
-    }
-
     fn step(&mut self) {
         let answer = crowmitten_step(
             &mut self.cells,
@@ -289,9 +275,18 @@ fn next_line(rt: &impl Print, reader: &mut impl Read) -> io::Result<Option<Line>
     Ok(Some(line))
 }
 
-// One case, on a board of its own: up to its end, or where no line follows.
+// One case, on a board of its own: up to its end, or where no line follows. The board is made here, and by no function that would give it back: its memories
+// would be copied twice for each case.
 fn case(rt: &impl Print, reader: &mut impl Read) -> io::Result<()> {
-    let mut board = Board::reset();
+    let mut board = Board {
+        cells: [0; CELLS],
+        rom: [0; 4096],
+        data: [0; 4096],
+        input: [0; 4],
+        output: [0; 4],
+        last: Run::default(),
+    };
+    crowmitten_reset(&mut board.cells);
     for _ in 0..LINES_MAX {
         match next_line(rt, reader)? {
             Some(line) if line.kind != Some(Kind::End) => act(rt, &mut board, line)?,
