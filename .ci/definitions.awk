@@ -162,7 +162,10 @@ FILENAME ~ /\.rt$/ {
     } else if (text ~ /^impl(<[^>]*>)? From<.* for /) {
         conversion = text
     } else if (conversion != "") {
-        if (text ~ /^ *ghost /) convert(crate, conversion, text)
+        # its clause is a ghost member, to the semicolon that ends it
+        if (text ~ /^ *ghost /) { in_clause = 1; sub(/^ *ghost [a-z_]+ = /, "", text) }
+        if (in_clause) convert(crate, conversion, text)
+        if (text ~ /;$/) in_clause = 0
         if (text ~ /^}/) conversion = ""
         text = ""
     } else if (text ~ /^impl/) {
@@ -188,16 +191,15 @@ FILENAME ~ /\.rt$/ {
     next
 }
 
-# The clause of a conversion `impl From<A> for B` is a ghost member of it. A type that is not exported has no conversion that is.
+# A line of the clause of a conversion `impl From<A> for B`. A type that is not exported has no conversion that is.
 function convert(crate, head, text, from, to, node) {
     from = name_after("^.* From<", head)
     to = name_after("^.* for ", head)
     if (is_hidden["type " crate " " from] || is_hidden["type " crate " " to]) return
     node = "contract " FILENAME " " from " " to
+    if (!(node in file_of)) functions[++function_count] = node
     file_of[node] = FILENAME
-    sub(/^ *ghost [a-z_]+ = /, "", text)
     statement[node] = statement[node] " " text
-    functions[++function_count] = node
 }
 
 # docs/CLAIMS.md, without the table itself. A name is looked for first in the crates that stand beside it.
