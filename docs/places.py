@@ -69,7 +69,7 @@ points = {
     "2 functions alike but for names, numbers and types": equal_bodies(),
     "3 loops by hand": matching(r"^ *(while|loop)\b"),
     "4 casts that a From says": matching(r"\bas (u64|usize)\b|\((\w+) as u32\)|\bas u32\b"),
-    "4 types without Debug and PartialEq": [
+    "4 types that derive Clone and Copy alone": [
         f"{path.relative_to(top)}: {found[1]}" for path in sources
         for found in re.finditer(r"#\[derive\(Clone, Copy\)\]\n(?:pub )?(?:struct|enum) (\w+)", path.read_text())],
     "5 functions lent both memories": lent_together(["rom", "data"]),
